@@ -3,7 +3,7 @@
 //! The identifier that it is about, what to do, and a name that is near: ` <d-z>: declare it with collating-symbol; is <dz> meant?`
 //! (`specs/AdviceLines.antt`). The sentence is a row of `sentences`.
 
-ghost use Rattle.std.specs.Prelude.{◌≡◌, option_copied, option_map, chars};
+ghost use Rattle.std.specs.Prelude.{option_copied, option_map, chars};
 ghost use Rattle.coll_devices.specs.Devices.{CountsErr, Writes};
 ghost use Rattle.coll_advice.specs.AdviceLines.{SendsAdvice, advice_line, near_bytes, sentence_bytes, subject_bytes};
 

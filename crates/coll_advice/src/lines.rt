@@ -6,7 +6,7 @@
 
 ghost use Rattle.std.specs.Prelude.{◌≡◌, [], None, Some, IfOk};
 ghost use Rattle.std.specs.List.{flat_map};
-ghost use Rattle.coll_nodes.specs.Entries.{given_weights, weight_ids};
+ghost use Rattle.coll_nodes.specs.Entries.{weight_ids};
 ghost use Rattle.coll_nodes.specs.OwnNames.{own_id};
 ghost use Rattle.coll_nodes.specs.TableLayout.{collation};
 ghost use Rattle.coll_statements.specs.OwnStatements.{own_line};

@@ -5,7 +5,6 @@
 //! `specs/FaultNumbers.antt`.
 
 ghost use Rattle.std.specs.Prelude.{◌≡◌, true, is_some};
-ghost use Rattle.std.specs.List.{list_any};
 ghost use Rattle.coll_advice.specs.FaultNumbers.{is_among, is_fault_number, of_lines, of_grammar, of_tables, of_statements, of_sessions};
 ghost use Rattle.coll_advice.specs.FaultNumbers.{of_imports};
 

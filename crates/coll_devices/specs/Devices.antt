@@ -37,6 +37,7 @@ abbrev pub Sends : {T E : Type 0} → Option (List ℕ) → Option (List ℕ) �
 Sends old new bytes r = MatchResult r (λ _. Appends old new bytes) (λ _. AppendsPrefix old new bytes)
 
 -- the device took all of these bytes, or at an error a prefix of them, and a failure was counted exactly there
-pub record Writes {T E : Type 0} (taken taken_after : Option (List ℕ)) (failed failed_after : ℕ) (bytes : List ℕ) (r : Result T E) : Type 0 where
+pub record Writes {T E : Type 0} (taken taken_after : Option (List ℕ)) (failed failed_after : ℕ) (bytes : List ℕ) (r : Result T E)
+    : Type 0 where
   pub sent : Sends taken taken_after bytes r
   pub errors : CountsErr failed failed_after r

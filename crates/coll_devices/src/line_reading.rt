@@ -6,8 +6,8 @@
 //! byte is searched twice. `advance` and `line` are apart so that a loop lends no slice across a turn.
 //! Whoever changes the buffer's size keeps it above the most bytes of a line: a line that is one
 //! byte longer must be seen whole.
-ghost use Rattle.std.specs.Prelude.{◌≡◌, ℕ, ◌+◌, ◌-◌, ◌<◌, ◌≤◌, nat_lt, length, take, drop, slice_index, slice_range};
-ghost use Rattle.std.specs.Prelude.{IfOk, IfSome, IfNone, MatchResult, vec_len, [], ◌++◌, ◌∷◌, true};
+ghost use Rattle.std.specs.Prelude.{◌≡◌, ◌+◌, ◌-◌, ◌<◌, ◌≤◌, nat_lt, length, take, slice_index, slice_range};
+ghost use Rattle.std.specs.Prelude.{IfOk, IfSome, IfNone, MatchResult, vec_len, [], true};
 ghost use Rattle.std.specs.Bool.{OnTrue, OnFalse};
 ghost use Rattle.std.specs.Io.KnownBytes.{Keeps, Consumes, IsAtEnd};
 ghost use Rattle.coll_devices.specs.Devices.{CountsErr};

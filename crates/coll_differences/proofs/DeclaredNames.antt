@@ -1,5 +1,6 @@
 -- A name that stands for an own name is declared, and a declaration is known by its name.
-use Rattle.std.proofs.Common.{◌≡◌, ℕ, ◌+◌, ◌<◌, length, take, drop, get_or, IfSome, Bool, true, false, ◌||◌, cond, is_some, List, [], ◌∷◌, ◌++◌, map, Option, Some, None, option_map, chars, sym, ap, ap₂, ◌∙◌, refl}
+use Rattle.std.proofs.Common.{◌≡◌, ℕ, ◌+◌, ◌<◌, length, take, drop, get_or, IfSome, Bool, true, false, ◌||◌, cond, is_some, List, [], ◌∷◌, ◌++◌, map, Option, Some, None, option_map, chars}
+use Rattle.std.proofs.Common.{sym, ap, ap₂, ◌∙◌, refl}
 use Rattle.std.specs.Borrow.{Bor}
 use Rattle.std.proofs.lemmas.Bool.{false≢true}
 use Rattle.coll_order.proofs.Sameness.{by_test}
@@ -53,7 +54,8 @@ distinct_declared [] h = tt
 distinct_declared (first ∷ later) h = (undeclared later first h.0, distinct_declared later h.1)
 
 -- where no name is declared twice, a declaration is there if it is the one of its name
-there_if_same : (declared : List Declaration) (declaration here : Declaration) (before later : List Mark) → map Declares declared ≡ before ++ Declares here ∷ later → AreDistinct same_name (names_of declared)
+there_if_same : (declared : List Declaration) (declaration here : Declaration) (before later : List Mark) → map Declares declared ≡ before ++ Declares here ∷ later
+    → AreDistinct same_name (names_of declared)
     → name_of here ≡ name_of declaration → has_mark (map Declares declared) (Declares declaration) ≡ same_declaration declaration here
 there_if_same [] declaration here [] later split apart named = absurd (none split) where
   none : [] ≡ Declares here ∷ later → ⊥
@@ -68,7 +70,8 @@ there_if_same (first ∷ declared) declaration here [] later split apart named =
 there_if_same (first ∷ declared) declaration here (other ∷ before) later split apart named =
     let tail : map Declares declared ≡ before ++ Declares here ∷ later = cc in
     let there : has_mark (map Declares declared) (Declares here) ≡ true = ap (λ ms. has_mark ms (Declares here)) tail ∙ has_middle before (Declares here) later in
-    by_test (λ b. same_name (name_of declaration) (name_of first) ≡ b → (same_declaration declaration first || has_mark (map Declares declared) (Declares declaration)) ≡ same_declaration declaration here)
+    by_test (λ b. same_name (name_of declaration) (name_of first) ≡ b → (same_declaration declaration first || has_mark (map Declares declared) (Declares declaration))
+    ≡ same_declaration declaration here)
     (same_name (name_of declaration) (name_of first))
     (λ on _. let e = (same_name_decides (name_of declaration) (name_of first)).0 on in
     absurd (false≢true (sym (undeclared declared here (ap (is_declared declared) (named ∙ e) ∙ apart.0)) ∙ there)))

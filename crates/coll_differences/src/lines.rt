@@ -3,11 +3,10 @@
 //! Each line is a list of pieces, or parts one behind another where it has a list; which line tells what is `specs/Lines.antt`. None of
 //! this takes memory.
 
-ghost use Rattle.std.specs.Prelude.{◌≡◌, ◌++◌, chars, codes, count_by, length, map, encode_utf8_all};
+ghost use Rattle.std.specs.Prelude.{◌≡◌, ◌++◌, chars, codes, count_by};
 ghost use Rattle.std.specs.List.{flat_map};
 ghost use Rattle.coll_devices.specs.Devices.{Writes};
 ghost use Rattle.coll_nodes.specs.WalkItems.{declared_by};
-ghost use Rattle.coll_texts.specs.Pieces.{piece_bytes};
 ghost use Rattle.coll_nodes.specs.declared.declarations.Declaration.TheVariants.{Element, Equivalence};
 ghost use Rattle.coll_texts.specs.PrintedParts.{id_bytes, symbol_bytes};
 ghost use Rattle.coll_differences.specs.Lines.{behind_told, change_told, counts_told, declaration_told, difference_told, differences_told};

@@ -6,7 +6,7 @@
 //! texts decode the bytes, so that a name or a string is the same list in a contract as in the definition of a token.
 //! A new method here has to keep to these views, and to allocate only where it says so. How many bytes are short may change.
 
-ghost use Rattle.std.specs.Prelude.{◌≡◌, ◌==◌, [], ◌∷◌, ◌++◌, length, chars, string_bytes, encode_utf8, encode_utf8_all, IfOk, OnOk, OnErr};
+ghost use Rattle.std.specs.Prelude.{◌≡◌, ◌==◌, [], ◌∷◌, ◌++◌, length, chars, string_bytes, encode_utf8_all, IfOk, OnOk, OnErr};
 ghost use Rattle.std.specs.Borrow.{sem};
 ghost use Rattle.std.specs.List.{AllZip};
 ghost use Rattle.coll_lex.specs.Buffers.{LendsMembers};

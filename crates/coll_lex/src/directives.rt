@@ -5,7 +5,7 @@
 //! another arm of `directive`, here and in the definition.
 
 ghost use Rattle.std.specs.Prelude.{◌≡◌, option_map};
-ghost use Rattle.coll_lex.specs.Directives.{operand_of, is_allowed, named_character, with_comment, with_escape, directive};
+ghost use Rattle.coll_lex.specs.Directives.{operand_of, named_character, with_comment, with_escape, directive};
 
 use crate::blanks::{begins_apart, past_blanks};
 use crate::{Chars, LexFault};

@@ -121,7 +121,7 @@ impl Model for Lexer {
 }
 
 impl Lexer {
-    ghost use Rattle.std.specs.Prelude.{◌≡◌, ◌≢◌, ◌+◌, ◌<◌, ◌≤◌, ◌∷◌, [], length, chars, Ok, Err, None, Some};
+    ghost use Rattle.std.specs.Prelude.{◌≡◌, ◌≢◌, ◌+◌, ◌<◌, ◌≤◌, [], length, Ok, Err, None, Some};
     ghost use Rattle.std.specs.Prelude.{option_map, IsSome, IsTrue, IfSome, IfOk, IfErr, OnOk, OnErr};
     ghost use Rattle.coll_devices.specs.PhysicalLines.{without_return};
     ghost use Rattle.coll_lex.specs.Directives.{directive};

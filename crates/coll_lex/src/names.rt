@@ -3,7 +3,7 @@
 //! The scan of symbols decides by these tests what a symbol stands for; `is_name` is for names that come from
 //! elsewhere. A change here is a change of `symbol_of` in `specs/Tokens.antt`.
 
-ghost use Rattle.std.specs.Prelude.{◌≡◌, ℕ, ◌||◌, not, nat_lt, length, chars, min, option_map, if◌then◌else◌};
+ghost use Rattle.std.specs.Prelude.{◌≡◌, ◌||◌, nat_lt, length, chars, min, option_map, if◌then◌else◌};
 ghost use Rattle.std.specs.List.{list_all};
 ghost use Rattle.coll_lex.specs.Blanks.{is_blank};
 ghost use Rattle.coll_lex.specs.Limits.{most_name_chars};

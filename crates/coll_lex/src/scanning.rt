@@ -6,7 +6,7 @@
 //! mode. No contract above this module sees the state: each move is proved to keep what is left to read
 //! (`reading_left` in `specs/Scanning.antt`), so a mode with a new field needs its case there.
 
-ghost use Rattle.std.specs.Prelude.{◌≡◌, ◌≢◌, ◌&&◌, not, ℕ, [], chars, OnOk, IfOk, IfErr, false, IfErr};
+ghost use Rattle.std.specs.Prelude.{◌≡◌, ◌≢◌, ℕ, [], chars, OnOk, IfOk, IfErr, false, IfErr};
 ghost use Rattle.coll_lex.specs.Marked.{Plain, Literal};
 ghost use Rattle.coll_lex.specs.Tokens.{is_constant};
 ghost use Rattle.coll_lex.specs.declared.faults.LexFault.TheVariants.{OutOfMemory};

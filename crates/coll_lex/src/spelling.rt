@@ -7,8 +7,8 @@
 //! a change of its definition in `specs/`, and of the law that it is read back.
 ghost use Rattle.arrayvec.specs.ArrayVec.{array_vec_len};
 ghost use Rattle.coll_lex.specs.Characters.{less_than, greater_than};
-ghost use Rattle.std.specs.Prelude.{◌≡◌, ◌+◌, ◌<◌, ◌≤◌, ℕ, [], ◌∷◌, ◌++◌, All, length, take, slice_index};
-ghost use Rattle.std.specs.Prelude.{chars, encode_utf8_all, IsTrue, IfNone, IfSome, true, false};
+ghost use Rattle.std.specs.Prelude.{◌≡◌, ◌+◌, ◌<◌, ◌≤◌, [], ◌∷◌, ◌++◌, All, length, take, slice_index};
+ghost use Rattle.std.specs.Prelude.{chars, encode_utf8_all, IfNone, IfSome, true, false};
 ghost use Rattle.coll_devices.specs.Devices.{Writes};
 ghost use Rattle.coll_lex.specs.ReadingBack.{NamesReadBack, NamesReadBackQuoted, CodesReadBack, CodesReadBackQuoted};
 ghost use Rattle.coll_lex.specs.Spelling.{is_escaped, spelled_char, spelled_name, spelled_symbol, spelled_code, hex_digit, hex_digits};

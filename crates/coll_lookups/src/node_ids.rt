@@ -3,7 +3,7 @@
 //! A `NodeIds` says which node an identifier leads to: a name by `NodeNames`, a character by a look-up of its own. An identifier
 //! that leads to none may stay as a key. A new kind of identifier is a look-up more.
 
-ghost use Rattle.std.specs.Prelude.{◌≡◌, true, None, Some, IfOk, OnOk, OnErr};
+ghost use Rattle.std.specs.Prelude.{◌≡◌, true, IfOk, OnOk, OnErr};
 
 use crate::HashKeys;
 use crate::node_names::NodeNames;

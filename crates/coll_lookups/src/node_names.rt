@@ -4,7 +4,7 @@
 //! later without taking memory. Copies share the names until one of them gets a further name. How a name is found, and in which
 //! order names are kept, may change.
 
-ghost use Rattle.std.specs.Prelude.{◌≡◌, ◌<◌, ℕ, List, [], true, None, Some, chars, length, slice_index_or};
+ghost use Rattle.std.specs.Prelude.{◌≡◌, ◌<◌, ℕ, List, [], true, None, chars, length, slice_index_or};
 ghost use Rattle.std.specs.Prelude.{vec_len, vec_capacity, IfOk, OnOk, OnErr};
 ghost use Rattle.std.specs.List.{position_or_len};
 ghost use Rattle.indexmap.specs.IndexSet.{insert_key};

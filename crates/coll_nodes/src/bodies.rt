@@ -6,7 +6,7 @@
 //! and gets declarations, sections and entries; what names stand for is in `own_names`, and what is done with one node in
 //! `linking`. A new kind of node is a new ring, and a look-up where it has a key.
 
-ghost use Rattle.std.specs.Prelude.{◌≡◌, ◌∷◌, ◌++◌, [], Some, None, false, length, ◌+◌, IfOk, OnOk, OnErr, option_copied};
+ghost use Rattle.std.specs.Prelude.{◌≡◌, ◌∷◌, [], Some, None, false, length, IfOk, OnOk, OnErr, option_copied};
 ghost use Rattle.coll_syntax.specs.Identifier.{has_name, same_name};
 ghost use Rattle.coll_nodes.specs.SoundBodies.{entry_if};
 

@@ -3,7 +3,7 @@
 //! An entry is plain data: what stands at a place of the order, and how it weighs at each level. Which weights an order line
 //! gives it is `entry_of` of `specs/Entries.antt`.
 
-ghost use Rattle.std.specs.Prelude.{◌≡◌, length, map};
+ghost use Rattle.std.specs.Prelude.{◌≡◌};
 
 use coll_lex::ListBuf;
 use coll_syntax::{Id, Weight};

@@ -20,7 +20,7 @@ use std::marker::Model;
 /// What a walk through a table visits.
 #[derive(Clone, Copy)]
 pub enum WalkItem<'a> {
-    /// A section begins: its name. The first section, which has no name, isn't met.
+    /// A section begins: its name. The first section, which has no name, isn't visited.
     Section(&'a str),
     /// An entry.
     Entry(&'a Entry),

@@ -120,7 +120,8 @@ kept_with_fault block line at lack spoiler none =
     (status-push block line
     ∙ ap (λ (w : Option ℕ). kept_status_by (or_else (lack_in block) w) block.line block.target (or_else (first_spoiler [] block.lines) (spoils block.lines line))
     (orders_in block.lines ++ order_by line.parsed)) lack
-    ∙ ap (λ (s : Option FaultAt). kept_status_by (or_else (lack_in block) (if is_lack_of_memory at.fault then Some at.line else None)) block.line block.target (or_else (first_spoiler [] block.lines) s)
+    ∙ ap (λ (s : Option FaultAt). kept_status_by (or_else (lack_in block) (if is_lack_of_memory at.fault then Some at.line else None)) block.line block.target
+    (or_else (first_spoiler [] block.lines) s)
     (orders_in block.lines ++ order_by line.parsed)) spoiler
     ∙ ap (λ (os : List OrderLine). kept_status_by (or_else (lack_in block) (if is_lack_of_memory at.fault then Some at.line else None)) block.line block.target
     (or_else (first_spoiler [] block.lines) (Some at)) (orders_in block.lines ++ os)) none
@@ -167,7 +168,8 @@ kept_with_command block line lack spoiler none =
     (status-push block line
     ∙ ap (λ (w : Option ℕ). kept_status_by (or_else (lack_in block) w) block.line block.target (or_else (first_spoiler [] block.lines) (spoils block.lines line))
     (orders_in block.lines ++ order_by line.parsed)) lack
-    ∙ ap (λ (s : Option FaultAt). kept_status_by (or_else (lack_in block) None) block.line block.target (or_else (first_spoiler [] block.lines) s) (orders_in block.lines ++ order_by line.parsed)) spoiler
+    ∙ ap (λ (s : Option FaultAt). kept_status_by (or_else (lack_in block) None) block.line block.target (or_else (first_spoiler [] block.lines) s)
+    (orders_in block.lines ++ order_by line.parsed)) spoiler
     ∙ ap (λ (os : List OrderLine). kept_status_by (or_else (lack_in block) None) block.line block.target (or_else (first_spoiler [] block.lines) None) (orders_in block.lines ++ os)) none
     ∙ command_cases (lack_in block) block.line block.target (first_spoiler [] block.lines) (orders_in block.lines)
     ∙ sym (kept_status_is block))

@@ -3,7 +3,7 @@
 //! The grammar is `table_line` of `specs/TableLines.antt`, by the keyword that the first token spells and the operands
 //! after it.
 
-ghost use Rattle.std.specs.Prelude.{◌≡◌, ◌∷◌, ◌≢◌, Ok, Err, IsTrue, IfOk, IfErr};
+ghost use Rattle.std.specs.Prelude.{◌≡◌, ◌≢◌, Ok, Err, IsTrue, IfOk, IfErr};
 ghost use Rattle.coll_syntax.specs.declared.syntax_faults.SyntaxFault.TheVariants.{OutOfMemory};
 ghost use Rattle.coll_syntax.specs.TableLines.{table_line, table_row, keyword_row as spelled_row};
 ghost use Rattle.coll_syntax.specs.TableLines.{order_start as spelled_start, section_rules as spelled_section_rules};

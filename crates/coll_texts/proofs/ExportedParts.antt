@@ -10,12 +10,12 @@ use Rattle.coll_syntax.specs.declared.identifiers.Id.TheVariants.{Named}
 use Rattle.coll_syntax.specs.declared.rules.Rule.{Rule}
 use Rattle.coll_nodes.specs.declared.entries.Entry.{Entry}
 use Rattle.coll_nodes.specs.Table.{Collation, Section, section_names}
-use Rattle.coll_nodes.specs.Walks.{Visited, VisitedSection, VisitedEntry, visited_name, visited_in, visited}
+use Rattle.coll_nodes.specs.Walks.{Visited, VisitedSection, VisitedEntry, visited_name, visited}
 use Rattle.coll_nodes.specs.WellFormed.{IsNamed, FirstIsUnnamed}
 use Rattle.coll_texts.specs.CanonicalText.{spelled_id, spelled_joined, spelled_rule, declaration_line, entry_line, rules_line, opening_lines, line_bytes}
 use Rattle.coll_texts.specs.ExportedText.{script_line, start_line, section_lines, exported_lines, exported_text}
-use Rattle.coll_texts.specs.ExportedParts.{noted_bytes, lines_visited, next_lines, walked_bytes, start_bytes, next_bytes, exported_bytes}
-use Rattle.coll_texts.specs.PrintedParts.{symbol_bytes, rules_bytes, opening_bytes, declaration_bytes}
+use Rattle.coll_texts.specs.ExportedParts.{noted_bytes, lines_visited, next_lines, walked_bytes, next_bytes, exported_bytes}
+use Rattle.coll_texts.specs.PrintedParts.{symbol_bytes, rules_bytes, declaration_bytes}
 use Rattle.coll_texts.proofs.PrintedParts.{id_before, lines_of_members}
 use Rattle.coll_texts.proofs.PrintedStates.{name_visited, names_visited}
 

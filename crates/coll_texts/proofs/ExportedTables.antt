@@ -1,5 +1,5 @@
 -- The exported text of a table is read as that table.
-use Rattle.std.proofs.Common.{◌≡◌, ℕ, suc, ◌≤◌, List, [], ◌∷◌, length, map, codes, Some, sym, ap, ◌∙◌, refl, arith}
+use Rattle.std.proofs.Common.{ℕ, List, [], ◌∷◌, map, Some, ap, ◌∙◌, arith}
 use Rattle.std.specs.Prelude.{All}
 use Rattle.std.specs.List.{flat_map}
 use Rattle.std.proofs.lemmas.List.{length-map}
@@ -13,7 +13,7 @@ use Rattle.coll_nodes.specs.Table.{Collation, section_names}
 use Rattle.coll_nodes.specs.WellFormed.{IsWellFormed}
 use Rattle.coll_texts.specs.Reading.{reads}
 use Rattle.coll_texts.specs.CanonicalText.{line_bytes}
-use Rattle.coll_texts.specs.ExportedText.{script_line, start_line, exported_text, ExportedTablesAreReadBack}
+use Rattle.coll_texts.specs.ExportedText.{script_line, exported_text, ExportedTablesAreReadBack}
 use Rattle.coll_texts.specs.ExportedParts.{next_lines}
 use Rattle.coll_texts.proofs.ExportedLines.{script_says, start_says}
 use Rattle.coll_texts.proofs.ExportedParts.{exported_walked}

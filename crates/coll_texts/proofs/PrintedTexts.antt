@@ -4,7 +4,7 @@ use Rattle.std.proofs.Common.{All, length, get_or, Some, None, Ok, chars, ⊎_el
 use Rattle.std.specs.Prelude.{encode_utf8_all, nat_lt, nat_le, take}
 use Rattle.std.specs.List.{list_all}
 use Rattle.std.specs.Str.{is_utf8}
-use lib.Utf8.{scalar, scalars, encode, encodes}
+use lib.Utf8.{scalar, scalars, encode}
 use Rattle.std.proofs.lemmas.Bool.{and_parts, cases_lt, ne_eqb, leb-true, ltb-true, le-ltb}
 use Rattle.std.proofs.lemmas.List.{get_or_default}
 use Rattle.std.proofs.lemmas.List.Elements.{All-nil, All-append, All-weaker}

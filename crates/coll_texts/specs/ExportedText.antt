@@ -10,7 +10,8 @@ use Rattle.coll_lex.specs.Spelling.{spelled_symbol}
 use Rattle.coll_syntax.specs.declared.rules.Rule.{Rule}
 use Rattle.coll_nodes.specs.Table.{Collation, Section, section_names}
 use Rattle.coll_nodes.specs.WellFormed.{IsWellFormed}
-use Rattle.coll_texts.specs.CanonicalText.{spelled_joined, spelled_rule, declaration_line, entry_line, rules_line, opening_lines, line_bytes}
+use Rattle.coll_texts.specs.CanonicalText.{spelled_joined, spelled_rule, declaration_line, entry_line, rules_line, opening_lines}
+use Rattle.coll_texts.specs.CanonicalText.{line_bytes}
 use Rattle.coll_texts.specs.Reading.{reads}
 
 -- the line that tells the name of a section

@@ -6,7 +6,7 @@
 //! places where the sections and the last of them end (`IsSoundBuilder` of `specs/SoundBodies.antt` of coll_nodes), so that no call
 //! walks.
 
-ghost use Rattle.std.specs.Prelude.{◌≡◌, ◌∷◌, ◌++◌, [], ◌<◌, Some, true, false, IfOk, OnOk, OnErr, length, option_copied};
+ghost use Rattle.std.specs.Prelude.{◌≡◌, ◌∷◌, ◌++◌, [], true, false, IfOk, OnOk, OnErr, length, option_copied};
 ghost use Rattle.coll_syntax.specs.Identifier.{has_name};
 
 use crate::own_weights::give_own_weights;

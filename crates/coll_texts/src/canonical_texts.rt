@@ -3,7 +3,6 @@
 //! The text is `text` of `specs/CanonicalText.antt`: its lines, each with its line feed. A new kind of line, or another spelling,
 //! is a case there first.
 
-ghost use Rattle.std.specs.Prelude.{◌++◌};
 ghost use Rattle.std.specs.List.{flat_map};
 ghost use Rattle.coll_devices.specs.Devices.{Writes};
 ghost use Rattle.coll_texts.specs.CanonicalText.{PrintedTablesAreReadBack};

@@ -10,7 +10,7 @@ ghost use Rattle.std.specs.Prelude.{Some, None, IfOk, IfErr, IfSome, OnOk, OnErr
 ghost use Rattle.std.specs.List.{flat_map, list_any};
 ghost use Rattle.coll_lex.specs.Names.{IsName};
 ghost use Rattle.coll_syntax.specs.Proper.{IsElementText, IsProperTableLine, IsProperLine, IsNameIfGiven, AreRulesIfGiven};
-ghost use Rattle.coll_syntax.specs.declared.lines.TableLine.TheVariants.{OrderStart, OrderEnd, Section, EndCategory, Order};
+ghost use Rattle.coll_syntax.specs.declared.lines.TableLine.TheVariants.{OrderStart, OrderEnd, Section, EndCategory};
 ghost use Rattle.coll_nodes.specs.Table.{has_text};
 ghost use Rattle.coll_texts.specs.BuilderStates.{is_end, levels_of, meaning_cause};
 ghost use Rattle.coll_texts.specs.Loading.{rules_after};

@@ -4,7 +4,7 @@
 //! (`specs/OwnNames.antt`). Entries and their weights speak of own names alone, so a name that is given from without is looked up
 //! here first, by one look-up for each question. Nothing here takes memory; what makes another text is in `coll_statements`.
 
-ghost use Rattle.std.specs.Prelude.{◌≡◌, false, chars, option_copied, option_map};
+ghost use Rattle.std.specs.Prelude.{◌≡◌, chars, option_copied, option_map};
 ghost use Rattle.coll_nodes.specs.OwnNames.{stands_for};
 ghost use Rattle.coll_nodes.specs.SoundBodies.{declaration_if};
 

@@ -7,7 +7,7 @@
 //! placed, and for no other: what may lack it gives an `AllocError` beside the refusal, and `check` joins the two. A new statement,
 //! or a new refusal of one, is a case of `own_delta` first.
 
-ghost use Rattle.std.specs.Prelude.{◌≡◌, ◌≢◌, ◌∷◌, [], true, IsOk, Ok, Err, Some, None, IfOk, IfErr, OnOk, OnErr, length, nat_le};
+ghost use Rattle.std.specs.Prelude.{◌≡◌, ◌≢◌, ◌∷◌, [], true, IsOk, Err, Some, None, IfOk, IfErr, OnOk, OnErr, length, nat_le};
 ghost use Rattle.std.specs.List.{flat_map};
 ghost use Rattle.coll_syntax.specs.Proper.{IsProper};
 ghost use Rattle.coll_table.specs.Delta.{all_moved, block_delta, declaration_refusal, delta, ids_given};

@@ -5,13 +5,13 @@
 //! the table is as it was. What holds of the items of a block is `ArePrepared` of `specs/Prepared.antt`. A new statement is a
 //! function more, which grows all that it needs before it changes anything else.
 
-ghost use Rattle.std.specs.Prelude.{◌≡◌, ◌∷◌, [], Some, None, true, length, IfOk, OnOk, OnErr};
+ghost use Rattle.std.specs.Prelude.{◌≡◌, ◌∷◌, [], Some, true, length, IfOk, OnOk, OnErr};
 ghost use Rattle.coll_syntax.specs.Identifier.{has_name};
 ghost use Rattle.coll_table.specs.Growth.{AddsLoose};
 ghost use Rattle.coll_table.specs.Prepared.{ArePrepared, IsPreparedBlock, IsPreparedDeclaration, IsPreparedLine};
 ghost use Rattle.coll_table.specs.Prepared.{IsPreparedReweight, IsPreparedSection, made_entry, weights_to};
 ghost use Rattle.coll_table.specs.Record.{AreLoose, added_by, added_nodes, without_nodes};
-ghost use Rattle.coll_nodes.specs.Table.{is_placed, is_symbol, section_names};
+ghost use Rattle.coll_nodes.specs.Table.{is_placed, section_names};
 ghost use Rattle.coll_nodes.specs.TableLayout.{collation, content_of};
 ghost use Rattle.coll_nodes.specs.Moving.{MayBeLoose};
 ghost use Rattle.coll_nodes.specs.declared.contents.Content.TheVariants as content;

@@ -11,7 +11,8 @@ told name = unwrap_or name (codes "-")
 pub returns-in-Some : goal.returns-in-Some
 returns-in-Some c =
     let names = c.args.names.now in
-    let there : slice_get names c.args.text ≡ Some c.in-Some.name.now = slice_get_read names (length names) c.args.text c.in-Some.name.now refl c.in-Some.ensures.lookup.3.0 c.in-Some.ensures.lookup.1 in
+    let there : slice_get names c.args.text ≡ Some c.in-Some.name.now = slice_get_read names (length names) c.args.text c.in-Some.name.now
+    refl c.in-Some.ensures.lookup.3.0 c.in-Some.ensures.lookup.1 in
     c.as_str.ensures.value ∙ sym (ap told (slice_get-map string_bytes names c.args.text ∙ ap (option_map string_bytes) there))
 
 pub returns-in-None : goal.returns-in-None

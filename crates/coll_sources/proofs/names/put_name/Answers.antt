@@ -1,5 +1,5 @@
 -- One more name is there.
-use Rattle.std.proofs.Common.{true, string_bytes, cond, ap, ◌∙◌, sym}
+use Rattle.std.proofs.Common.{true, string_bytes, cond, ap, ◌∙◌}
 use Rattle.std.specs.Str.{bytes_eq}
 use Rattle.std.specs.HashSet.{contains_text}
 use Rattle.std.proofs.lemmas.Map.Text.{hash_set_updates_text}

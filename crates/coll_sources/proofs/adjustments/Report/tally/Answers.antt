@@ -9,5 +9,6 @@ use Rattle.coll_sources.proofs.adjustments.Report.tally.Goals as goal
 
 pub returns-clause-tally : goal.returns-clause-tally
 returns-clause-tally c =
-    let found = find_from_yields_List (is_of c.args.adjustment) _ _ c.find.result c.find.ensures.ran (YieldsList-from_slice c.deref.result.now c.iter.ensures.rest) (λ x b q k. search (rules, tests)) in
+    let found = find_from_yields_List (is_of c.args.adjustment) _ _ c.find.result c.find.ensures.ran (YieldsList-from_slice c.deref.result.now c.iter.ensures.rest)
+    (λ x b q k. search (rules, tests)) in
     rw (← c.self.view_is) (c.copied.ensures ∙ found ∙ ap (λ (tallies : List Tally). tally_of tallies c.args.adjustment) c.deref.ensures.value)
