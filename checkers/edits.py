@@ -1,3 +1,4 @@
+#!/usr/bin/env python3
 """Edits that turn the meaning of a function: how they are read, and applied to the files of a crate.
 
 An edit is a file `NAME.edit` in crates/CRATE/must-fail/, which `rt ci` tries, or in crates/CRATE/more-edits/, which

@@ -8,9 +8,9 @@
 //! - `identifiers`: identifiers by their own names, and whether they are known and placed;
 //! - `lines`: what is wrong with an order line (`LineFaults`);
 //! - `blocks` and `statements`: all faults of a statement, and the first with a refusal (`Faults`);
-//! - `sentences`: the name and the sentence of each number;
-//! - `near_names` and `edits`: the declared name that is nearest to another;
-//! - `advice_lines`: what is written of a fault behind its number and name.
+//! - `sentences`: the name and the sentence of each number (`FaultNumbers`);
+//! - `near_names`, `edits` and `texts`: the declared name that is nearest to another;
+//! - `advice_lines`: what is written of a fault behind its number and name (`AdviceLines`).
 #![tactic(auto)]
 
 mod advice_lines;

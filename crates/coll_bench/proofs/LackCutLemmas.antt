@@ -183,14 +183,14 @@ abbrev asked_with : List Bool → (read later : List ℕ) → List RequestAt
 asked_with choices read later = requests_of choices true first_state None (lines_of read ++ lines_of later)
 
 module _ (lines_starved requests_starved : List Bool) (table : Collation) (read : List ℕ) (cut : IsCut read) where
-  continued : (later : List ℕ) → starved_output lines_starved requests_starved true table (read ++ later) ≡ answers (begun table) (asked_with lines_starved read later) requests_starved
+  continued : (later : List ℕ) → starved_output lines_starved requests_starved true (begun table) (read ++ later) ≡ answers (begun table) (asked_with lines_starved read later) requests_starved
   unfolding written_from
   continued later =
-      output_kept lines_starved requests_starved true table (read ++ later)
+      output_kept lines_starved requests_starved true (begun table) (read ++ later)
       ∙ ap (λ (ls : List (List ℕ)). answers (begun table) (requests_of lines_starved true first_state None ls) requests_starved) (cut later)
 
   shown_before : ShowsLack (answers (begun table) (asked_of lines_starved read) requests_starved) → (later : List ℕ)
-      → ShowsLack (starved_output lines_starved requests_starved true table (read ++ later))
+      → ShowsLack (starved_output lines_starved requests_starved true (begun table) (read ++ later))
   shown_before shows later =
       let asked = asked_of lines_starved read in
       let (more, requests_are) = requests_prefix lines_starved first_state None (lines_of read) (lines_of later) in
@@ -199,19 +199,19 @@ module _ (lines_starved requests_starved : List Bool) (table : Collation) (read 
       (shows_earlier (answers (begun table) asked requests_starved) rest shows)
 
   shown_later : ((later : List (List ℕ)) → Lacks (requests_of lines_starved true first_state None (lines_of read ++ later))) → (later : List ℕ)
-      → ShowsLack (starved_output lines_starved requests_starved true table (read ++ later))
+      → ShowsLack (starved_output lines_starved requests_starved true (begun table) (read ++ later))
   shown_later lacks later =
       subst (λ (bytes : List ℕ). ShowsLack bytes) (sym (continued later)) (answers_lack (begun table) (asked_with lines_starved read later) requests_starved (lacks (lines_of later)))
 
-  exact_there : (starved_output lines_starved requests_starved false table read ≡ starved_output [] [] false table read)
-      ⊎ ((later : List ℕ) → ShowsLack (starved_output lines_starved requests_starved true table (read ++ later)))
+  exact_there : (starved_output lines_starved requests_starved false (begun table) read ≡ starved_output [] [] false (begun table) read)
+      ⊎ ((later : List ℕ) → ShowsLack (starved_output lines_starved requests_starved true (begun table) (read ++ later)))
   unfolding written_from
   exact_there =
       ⊎_elim
       (λ (same : asked_of lines_starved read ≡ asked_of [] read).
       ⊎_elim
       (λ (exact : answers (begun table) (asked_of lines_starved read) requests_starved ≡ answers (begun table) (asked_of lines_starved read) []).
-      inl (output_kept lines_starved requests_starved false table read ∙ exact ∙ ap (λ (us : List RequestAt). answers (begun table) us []) same ∙ sym (output_kept [] [] false table read)))
+      inl (output_kept lines_starved requests_starved false (begun table) read ∙ exact ∙ ap (λ (us : List RequestAt). answers (begun table) us []) same ∙ sym (output_kept [] [] false (begun table) read)))
       (λ (shows : ShowsLack (answers (begun table) (asked_of lines_starved read) requests_starved)). inr (shown_before shows))
       (answers_exact (begun table) (asked_of lines_starved read) requests_starved))
       (λ (lacks : (later : List (List ℕ)) → Lacks (requests_of lines_starved true first_state None (lines_of read ++ later))). inr (shown_later lacks))
@@ -223,6 +223,6 @@ lack_shows_cut lines_starved requests_starved table read in_feeds = exact_there 
 pub lack_shows_prefix : LackShowsPrefix
 lack_shows_prefix lines_starved requests_starved table text written back is =
     ⊎_elim
-    (λ (same : starved_output lines_starved requests_starved true table text ≡ output table text). inl (back, sym same ∙ is))
-    (λ (shows : ShowsLack (starved_output lines_starved requests_starved true table text)). inr (subst (λ (bytes : List ℕ). ShowsLack bytes) is shows))
+    (λ (same : starved_output lines_starved requests_starved true (begun table) text ≡ output table text). inl (back, sym same ∙ is))
+    (λ (shows : ShowsLack (starved_output lines_starved requests_starved true (begun table) text)). inr (subst (λ (bytes : List ℕ). ShowsLack bytes) is shows))
     (lack_shows lines_starved requests_starved table text)

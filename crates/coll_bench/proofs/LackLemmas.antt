@@ -265,8 +265,8 @@ unfolding output
 lack_shows lines_starved requests_starved table text =
     let written = written_from first_state None (begun table) lines_starved requests_starved true (lines_of text) in
     let stated = written_from first_state None (begun table) [] [] true (lines_of text) in
-    subst (λ (bytes : List ℕ). Exact bytes (starved_output [] [] true table text)) (sym (output_kept lines_starved requests_starved true table text))
-    (subst (λ (bytes : List ℕ). Exact written bytes) (sym (output_kept [] [] true table text)) (written_exact lines_starved requests_starved (begun table) (lines_of text)))
+    subst (λ (bytes : List ℕ). Exact bytes (starved_output [] [] true (begun table) text)) (sym (output_kept lines_starved requests_starved true (begun table) text))
+    (subst (λ (bytes : List ℕ). Exact written bytes) (sym (output_kept [] [] true (begun table) text)) (written_exact lines_starved requests_starved (begun table) (lines_of text)))
 
 -- the last line of the text, where memory was refused to some lines, is the stated one, or a request shows it
 abbrev ExactLast : List Bool → LexerState → Option OpenBlock → List (List ℕ) → Type 0
@@ -321,6 +321,6 @@ pub lack_shows_last : LackShowsLast
 lack_shows_last lines_starved requests_starved table text =
     ⊎_elim (λ (same : last_of lines_starved true text ≡ last_of [] true text). inl same)
     (λ (lacks : Lacks (kept_requests true None (map parsed (logical_lines lines_starved true first_state (lines_of text))))).
-    inr (subst (λ (bytes : List ℕ). ShowsLack bytes) (sym (output_kept lines_starved requests_starved true table text))
+    inr (subst (λ (bytes : List ℕ). ShowsLack bytes) (sym (output_kept lines_starved requests_starved true (begun table) text))
     (written_lacks lines_starved requests_starved (begun table) (lines_of text) lacks)))
     (last_exact lines_starved first_state None (lines_of text))

@@ -3,7 +3,6 @@ pub mod BatchInputs
 pub mod DeltaDecisions
 pub mod DeltaNumbers
 pub mod DeltaTexts
-pub mod ExportLemmas
 pub mod LackCutLemmas
 pub mod LackLemmas
 pub mod LawLemmas

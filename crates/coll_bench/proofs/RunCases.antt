@@ -20,7 +20,7 @@ use Rattle.coll_bench.specs.BatchReading.{ReadsDeltas, DeltasFail, InputsFail, R
 use Rattle.coll_bench.specs.BatchRuns.{Ending, ReadFailed, WriteFailed, Starved, Refused, ending_of, DeltasStopWithin, InputsStopWithin}
 use Rattle.coll_bench.specs.BatchRuns.{DeltasStarve, InputsStarve, WritesPrefix, BatchRanTo, BatchRuns, CountsInputs, raised_at}
 use Rattle.coll_bench.specs.BatchWriting.{Outputs, IsOfOutput, starved_key}
-use Rattle.coll_bench.specs.Reports.{write_refused}
+use Rattle.coll_bench.specs.Reports.{failed_write}
 use Rattle.coll_bench.specs.Serving.{ReadsNone}
 use Rattle.coll_bench.specs.declared.batches.Batch.{Batch}
 use Rattle.coll_bench.specs.declared.faults.Fault.{Fault}
@@ -181,7 +181,7 @@ module _ (b : Batch) (left left_after : Option (List ℕ)) (lefts lefts_after : 
             → BatchRanTo (ending_of (fault_in 0 0 f)) b table_text delta_texts left_after lefts_after written (fault_in 0 0 f)
         by_fault written f own h =
             ⊎_elim
-            (λ (e : f ≡ write_refused). subst (λ (f : Fault). BatchRanTo (ending_of (fault_in 0 0 f)) b table_text delta_texts left_after lefts_after written (fault_in 0 0 f)) (sym e) (
+            (λ (e : f ≡ failed_write). subst (λ (f : Fault). BatchRanTo (ending_of (fault_in 0 0 f)) b table_text delta_texts left_after lefts_after written (fault_in 0 0 f)) (sym e) (
               (refl, refl),
               h,
             ))

@@ -6,8 +6,7 @@ use Rattle.coll_devices.specs.PhysicalLines.{lines_of}
 use Rattle.coll_lex.specs.LogicalLines.{LexerState, LogicalLine, first_state, number_of, first_line, served, state_by, lines_by, logical_lines}
 use Rattle.coll_lex.specs.declared.tokens.Line.{Line}
 use Rattle.coll_lex.specs.declared.faults.LexFault.{LexFault}
-use Rattle.coll_nodes.specs.Table.{Collation}
-use Rattle.coll_history.specs.Histories.{History, begun}
+use Rattle.coll_history.specs.Histories.{History}
 use Rattle.coll_requests.specs.SessionLines.{opening_of, parsed}
 use Rattle.coll_requests.specs.Parsing.{parsed_by, parsed_in, parsed_at}
 use Rattle.coll_requests.specs.OpenBlocks.{kept_requests_at, kept_after, kept_last_or, kept_requests}
@@ -22,11 +21,11 @@ use Rattle.coll_requests.specs.declared.requests.RequestAt.{RequestAt}
 use Rattle.coll_requests.proofs.BlockLemmas.{requests_kept}
 
 -- what is written for a text is what is written from its beginning, by what the session keeps
-pub output_kept : (lines_starved requests_starved : List Bool) (ends : Bool) (table : Collation) (text : List ℕ)
-    → starved_output lines_starved requests_starved ends table text ≡ written_from first_state None (begun table) lines_starved requests_starved ends (lines_of text)
+pub output_kept : (lines_starved requests_starved : List Bool) (ends : Bool) (start : History) (text : List ℕ)
+    → starved_output lines_starved requests_starved ends start text ≡ written_from first_state None start lines_starved requests_starved ends (lines_of text)
 unfolding starved_output written_from
-output_kept lines_starved requests_starved ends table text =
-    ap (λ (us : List RequestAt). answers (begun table) us requests_starved) (sym (requests_kept ends None (map parsed (logical_lines lines_starved ends first_state (lines_of text)))))
+output_kept lines_starved requests_starved ends start text =
+    ap (λ (us : List RequestAt). answers start us requests_starved) (sym (requests_kept ends None (map parsed (logical_lines lines_starved ends first_state (lines_of text)))))
 
 -- a choice for each of some requests
 abbrev pub choices_for : (starved : Bool) → List RequestAt → List Bool

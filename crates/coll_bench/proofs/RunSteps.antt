@@ -10,11 +10,10 @@ use Rattle.coll_devices.specs.LineReading.{ReaderState, no_line, CutsLine, Cuts,
 use Rattle.coll_lex.specs.LogicalLines.{LexerState, first_state, served, state_by, logical_lines}
 use Rattle.coll_devices.specs.declared.stops.ReadStop.{ReadStop}
 use Rattle.coll_devices.proofs.PhysicalLinesLemmas.{lines_of-nil, lines_of-ended, lines_of-part, lines_of-cut}
-use Rattle.coll_nodes.specs.Table.{Collation}
-use Rattle.coll_history.specs.Histories.{History, begun}
+use Rattle.coll_history.specs.Histories.{History}
 use Rattle.coll_requests.specs.Parsing.{parsed_at}
 use Rattle.coll_requests.specs.Taking.{stop_at, line_requests, line_block}
-use Rattle.coll_bench.specs.Serving.{IsBegun, Served, ReadsNone, history_after_all, replies_to, line_replies}
+use Rattle.coll_bench.specs.Serving.{IsAtStart, Served, ReadsNone, history_after_all, replies_to, line_replies}
 use Rattle.coll_bench.specs.Runs.{last_line, CountsReads}
 use Rattle.coll_bench.specs.Underway.{written_from, IsCut, IsCutThere, IsUnderway, Underway}
 use Rattle.coll_bench.specs.declared.faults.RunFault.{RunFault}
@@ -25,9 +24,9 @@ use Rattle.coll_bench.proofs.RunLemmas.{choices_for, written_on}
 use Rattle.coll_bench.proofs.RunEnds.{last_on}
 
 -- nothing was read or written yet
-pub underway_begun : (table : Collation) (text before : List ℕ) (ended : Bool) (unread taken : Option (List ℕ)) (state : RunState) → IsBegun state table → ended ≡ false → unread ≡ Some text
-    → taken ≡ Some before → Underway table text before ended unread taken state
-underway_begun table text before ended unread taken state b going unread_is taken_is = (
+pub underway_begun : (start : History) (text before : List ℕ) (ended : Bool) (unread taken : Option (List ℕ)) (state : RunState) → IsAtStart state start → ended ≡ false → unread ≡ Some text
+    → taken ≡ Some before → Underway start text before ended unread taken state
+underway_begun start text before ended unread taken state b going unread_is taken_is = (
   [],
   text,
   [],
@@ -43,9 +42,9 @@ underway_begun table text before ended unread taken state b going unread_is take
     unread_is = unread_is;
     taken_is = taken_is ∙ ap Some (sym (append-nil before));
     goes_on = λ c d ends later.
-        ap (λ (ls : List (List ℕ)). written_from first_state None (begun table) c d ends (ls ++ later)) lines_of-nil
-        ∙ ap (λ (s : LexerState). written_from s None (begun table) c d ends later) (sym b.parser)
-        ∙ ap (λ (o : Option OpenBlock). written_from state.parser o (begun table) c d ends later) (sym b.block)
+        ap (λ (ls : List (List ℕ)). written_from first_state None start c d ends (ls ++ later)) lines_of-nil
+        ∙ ap (λ (s : LexerState). written_from s None start c d ends later) (sym b.parser)
+        ∙ ap (λ (o : Option OpenBlock). written_from state.parser o start c d ends later) (sym b.block)
         ∙ ap (λ (h : History). written_from state.parser state.block h c d ends later) (sym b.session);
     last = λ c ends later.
         ap (λ (ls : List (List ℕ)). last_line (logical_lines c ends first_state (ls ++ later))) lines_of-nil
@@ -129,9 +128,9 @@ appended (Some xs) (Some ys) before written bytes is more =
     ap Some (more ∙ ap (λ (l : List ℕ). l ++ bytes) same ∙ append_assoc before written bytes)
 
 -- how a run goes on from what was read and written so far, for all further lines and choices
-abbrev GoesOn : Collation → (read written : List ℕ) → (lines requests : List Bool) → LexerState → Option OpenBlock → History → Type 0
-GoesOn table read written lines requests s block h = (c d : List Bool) (ends : Bool) (later : List (List ℕ))
-    → written_from first_state None (begun table) (lines ++ c) (requests ++ d) ends (lines_of read ++ later) ≡ written ++ written_from s block h c d ends later
+abbrev GoesOn : History → (read written : List ℕ) → (lines requests : List Bool) → LexerState → Option OpenBlock → History → Type 0
+GoesOn start read written lines requests s block h = (c d : List Bool) (ends : Bool) (later : List (List ℕ))
+    → written_from first_state None start (lines ++ c) (requests ++ d) ends (lines_of read ++ later) ≡ written ++ written_from s block h c d ends later
 
 -- the same of a text's last line
 abbrev HasLast : (read : List ℕ) → List Bool → LexerState → Type 0
@@ -141,15 +140,15 @@ HasLast read lines s = (c : List Bool) (ends : Bool) (later : List (List ℕ)) �
 pub one_more : (read read2 line : List ℕ) (later : List (List ℕ)) → lines_of read2 ≡ lines_of read ++ line ∷ [] → lines_of read2 ++ later ≡ lines_of read ++ line ∷ later
 one_more read read2 line later more = ap (λ (ls : List (List ℕ)). ls ++ later) more ∙ append_assoc (lines_of read) (line ∷ []) later
 
-goes_on_by : (table : Collation) (read read2 written line : List ℕ) (lines requests : List Bool) (s s2 : LexerState) (block block2 : Option OpenBlock) (h h2 : History) (memory starved : Bool)
-    → GoesOn table read written lines requests s block h
+goes_on_by : (start : History) (read read2 written line : List ℕ) (lines requests : List Bool) (s s2 : LexerState) (block block2 : Option OpenBlock) (h h2 : History) (memory starved : Bool)
+    → GoesOn start read written lines requests s block h
     → lines_of read2 ≡ lines_of read ++ line ∷ [] → stop_at (parsed_at memory s line) ≡ None → s2 ≡ state_by s (served memory s line) → block2 ≡ line_block block (parsed_at memory s line)
     → h2 ≡ history_after_all starved h (line_requests block (parsed_at memory s line))
-    → GoesOn table read2 (written ++ replies_to starved h (line_requests block (parsed_at memory s line))) (lines ++ memory ∷ [])
+    → GoesOn start read2 (written ++ replies_to starved h (line_requests block (parsed_at memory s line))) (lines ++ memory ∷ [])
     (requests ++ choices_for starved (line_requests block (parsed_at memory s line))) s2 block2 h2
-goes_on_by table read read2 written line lines requests s s2 block block2 h h2 memory starved goes more on s_is block_is h_is c d ends later =
+goes_on_by start read read2 written line lines requests s s2 block block2 h h2 memory starved goes more on s_is block_is h_is c d ends later =
     let us = line_requests block (parsed_at memory s line) in
-    let first = written_from first_state None (begun table) in
+    let first = written_from first_state None start in
     ap (λ (ls : List (List ℕ)). first ((lines ++ memory ∷ []) ++ c) ((requests ++ choices_for starved us) ++ d) ends ls) (one_more read read2 line later more)
     ∙ ap (λ (l : List Bool). first l ((requests ++ choices_for starved us) ++ d) ends (lines_of read ++ line ∷ later)) (append_assoc lines (memory ∷ []) c)
     ∙ ap (λ (l : List Bool). first (lines ++ memory ∷ c) l ends (lines_of read ++ line ∷ later)) (append_assoc requests (choices_for starved us) d)
@@ -170,12 +169,12 @@ has_last_by read read2 line lines s s2 memory last more on s_is c ends later =
     ∙ last_on memory s line c ends later on
     ∙ ap (λ (x : LexerState). last_line (logical_lines c ends x later)) (sym s_is)
 
-served_on : (table : Collation) (text before : List ℕ) (ended ended2 : Bool) (unread0 unread1 taken0 taken1 : Option (List ℕ)) (old new : RunState) (read rest written : List ℕ)
+served_on : (start : History) (text before : List ℕ) (ended ended2 : Bool) (unread0 unread1 taken0 taken1 : Option (List ℕ)) (old new : RunState) (read rest written : List ℕ)
     (lines requests : List Bool) (memory starved : Bool) (line : List ℕ)
-    → IsUnderway table text before ended unread0 taken0 old read rest written lines requests → ended ≡ false → Cuts ended2 unread0 unread1 line → IsInLine line → Served memory starved old new line
+    → IsUnderway start text before ended unread0 taken0 old read rest written lines requests → ended ≡ false → Cuts ended2 unread0 unread1 line → IsInLine line → Served memory starved old new line
     → Appends taken0 taken1 (line_replies memory starved old line)
-    → Underway table text before ended2 unread1 taken1 new
-served_on table text before ended ended2 unread0 unread1 taken0 taken1 old new read rest written lines requests memory starved line u going cuts whole served more =
+    → Underway start text before ended2 unread1 taken1 new
+served_on start text before ended ended2 unread0 unread1 taken0 taken1 old new read rest written lines requests memory starved line u going cuts whole served more =
     let (rest2, unread_is, cut) = unread_after ended2 unread0 unread1 rest line u.unread_is cuts in
     let (read2, n) = next_line ended2 read rest rest2 line whole cut (u.there.cut going) (u.there.in_feeds going) in (
       read2,
@@ -188,18 +187,18 @@ served_on table text before ended ended2 unread0 unread1 taken0 taken1 old new r
         there = n.there;
         unread_is = unread_is;
         taken_is = appended taken0 taken1 before written (line_replies memory starved old line) u.taken_is more;
-        goes_on = goes_on_by table read read2 written line lines requests old.parser new.parser old.block new.block old.session.history new.session.history memory starved u.goes_on n.lines_are
+        goes_on = goes_on_by start read read2 written line lines requests old.parser new.parser old.block new.block old.session.history new.session.history memory starved u.goes_on n.lines_are
             served.goes_on served.parser served.block served.session;
         last = has_last_by read read2 line lines old.parser new.parser memory u.last n.lines_are served.goes_on served.parser;
       },
     )
 
 -- one more line was served, and the run goes on
-pub underway_on : (table : Collation) (text before : List ℕ) (ended ended2 : Bool) (unread0 unread1 taken0 taken1 : Option (List ℕ)) (old new : RunState) (line : List ℕ)
-    → Underway table text before ended unread0 taken0 old → ended ≡ false → Cuts ended2 unread0 unread1 line → IsInLine line
-    → (memory : Bool) × (starved : Bool) × Served memory starved old new line × Appends taken0 taken1 (line_replies memory starved old line) → Underway table text before ended2 unread1 taken1 new
-underway_on table text before ended ended2 unread0 unread1 taken0 taken1 old new line (read, rest, written, lines, requests, u) going cuts whole (memory, starved, served, more) =
-    served_on table text before ended ended2 unread0 unread1 taken0 taken1 old new read rest written lines requests memory starved line u going cuts whole served more
+pub underway_on : (start : History) (text before : List ℕ) (ended ended2 : Bool) (unread0 unread1 taken0 taken1 : Option (List ℕ)) (old new : RunState) (line : List ℕ)
+    → Underway start text before ended unread0 taken0 old → ended ≡ false → Cuts ended2 unread0 unread1 line → IsInLine line
+    → (memory : Bool) × (starved : Bool) × Served memory starved old new line × Appends taken0 taken1 (line_replies memory starved old line) → Underway start text before ended2 unread1 taken1 new
+underway_on start text before ended ended2 unread0 unread1 taken0 taken1 old new line (read, rest, written, lines, requests, u) going cuts whole (memory, starved, served, more) =
+    served_on start text before ended ended2 unread0 unread1 taken0 taken1 old new read rest written lines requests memory starved line u going cuts whole served more
 
 -- what the reader did, by its answer
 pub gives_line : (old new : ReaderState) (left left_after : Option (List ℕ)) (failed failed_after : ℕ) (more : Bool) → Advances old new left left_after failed failed_after (Ok more) → more ≡ true

@@ -2,7 +2,7 @@
 use Rattle.std.specs.Prelude.{◌≡◌, ◌⊎◌, ℕ, Bool, true, false, List, [], ◌++◌}
 use Rattle.coll_devices.specs.PhysicalLines.{lines_of, with_feeds}
 use Rattle.coll_nodes.specs.Table.{Collation}
-use Rattle.coll_history.specs.Histories.{History}
+use Rattle.coll_history.specs.Histories.{History, begun}
 use Rattle.coll_requests.specs.declared.requests.Request.{Request}
 use Rattle.coll_bench.specs.Replies.{refused_line, starved_line, reply_if, history_after_if}
 use Rattle.coll_bench.specs.declared.faults.Fault.{Fault}
@@ -20,23 +20,23 @@ ShowsLack bytes = (before : List ℕ) × (after : List ℕ) × (bytes ≡ before
 -- lack of memory shows: what is written for a whole text is what is stated, or that reply stands in it
 abbrev pub LackShows : Type 0
 LackShows = (lines_starved requests_starved : List Bool) (table : Collation) (text : List ℕ)
-    → (starved_output lines_starved requests_starved true table text ≡ output table text)
-    ⊎ ShowsLack (starved_output lines_starved requests_starved true table text)
+    → (starved_output lines_starved requests_starved true (begun table) text ≡ output table text)
+    ⊎ ShowsLack (starved_output lines_starved requests_starved true (begun table) text)
 
 -- the last line of a text, if it has one that is too long or one too many, is the stated one, or that reply stands in the output
 abbrev pub LackShowsLast : Type 0
 LackShowsLast = (lines_starved requests_starved : List Bool) (table : Collation) (text : List ℕ)
-    → (last_of lines_starved true text ≡ last_of [] true text) ⊎ ShowsLack (starved_output lines_starved requests_starved true table text)
+    → (last_of lines_starved true text ≡ last_of [] true text) ⊎ ShowsLack (starved_output lines_starved requests_starved true (begun table) text)
 
 -- what is written for lines that each end in a line feed, where the text is cut behind them, is what is stated for them; or,
 -- whatever comes behind them in its place, that reply stands in what is written for the whole under the same choices
 abbrev pub LackShowsCut : Type 0
 LackShowsCut = (lines_starved requests_starved : List Bool) (table : Collation) (read : List ℕ) → read ≡ with_feeds (lines_of read)
-    → (starved_output lines_starved requests_starved false table read ≡ starved_output [] [] false table read)
-    ⊎ ((later : List ℕ) → ShowsLack (starved_output lines_starved requests_starved true table (read ++ later)))
+    → (starved_output lines_starved requests_starved false (begun table) read ≡ starved_output [] [] false (begun table) read)
+    ⊎ ((later : List ℕ) → ShowsLack (starved_output lines_starved requests_starved true (begun table) (read ++ later)))
 
 -- a prefix of what is to be written for a whole text is one of what is stated, or that reply stands in the whole
 abbrev pub LackShowsPrefix : Type 0
 LackShowsPrefix = (lines_starved requests_starved : List Bool) (table : Collation) (text written back : List ℕ)
-    → starved_output lines_starved requests_starved true table text ≡ written ++ back
+    → starved_output lines_starved requests_starved true (begun table) text ≡ written ++ back
     → ((later : List ℕ) × (output table text ≡ written ++ later)) ⊎ ShowsLack (written ++ back)

@@ -25,8 +25,8 @@ unfoldable pub fault_line : (names : List (List ℕ)) → RunFault → List ℕ
 fault_line names ended = named names ended.input ++ behind_name ended
 
 -- a write failed
-abbrev pub write_refused : Fault
-write_refused = fault.Write write.WriteFault
+abbrev pub failed_write : Fault
+failed_write = fault.Write write.WriteFault
 
 -- the exit status for a fault: 2 where a device failed, of which a read is 67 and a write 68, and 1 for every other fault
 abbrev pub exit_status : Fault → ℕ

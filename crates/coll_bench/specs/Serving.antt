@@ -46,11 +46,15 @@ unfoldable pub history_after_all : (starved : Bool) → History → List Request
 history_after_all starved h [] = h
 history_after_all starved h (request ∷ later) = history_after_all starved (history_after_if starved h request.request) later
 
--- a session at the beginning of a text
-pub record IsBegun (state : RunState) (table : Collation) : Type 0 where
+-- a session at the beginning of a text, behind this history
+pub record IsAtStart (state : RunState) (start : History) : Type 0 where
   pub parser : state.parser ≡ first_state
   pub block : state.block ≡ None
-  pub session : state.session.history ≡ begun table
+  pub session : state.session.history ≡ start
+
+-- the same of a table to which nothing has happened yet
+abbrev pub IsBegun : RunState → Collation → Type 0
+IsBegun state table = IsAtStart state (begun table)
 
 -- a physical line was served, and the session goes on
 pub record Served (memory starved : Bool) (old new : RunState) (line : List ℕ) : Type 0 where

@@ -2,8 +2,7 @@
 use Rattle.std.specs.Prelude.{◌≡◌, ℕ, Bool, true, false, List, [], ◌++◌, map, Option, Some, None}
 use Rattle.coll_devices.specs.PhysicalLines.{lines_of, with_feeds}
 use Rattle.coll_lex.specs.LogicalLines.{LexerState, first_state, logical_lines}
-use Rattle.coll_nodes.specs.Table.{Collation}
-use Rattle.coll_history.specs.Histories.{History, begun}
+use Rattle.coll_history.specs.Histories.{History}
 use Rattle.coll_requests.specs.SessionLines.{parsed}
 use Rattle.coll_requests.specs.OpenBlocks.{kept_requests}
 use Rattle.coll_bench.specs.Replies.{answers}
@@ -31,20 +30,20 @@ pub record IsCutThere (ended : Bool) (read rest : List ℕ) : Type 0 where
 
 -- what was read and written of a text so far, and how it goes on for all further lines and choices; the test says whether
 -- the end of the input was met
-pub record IsUnderway (table : Collation) (text before : List ℕ) (ended : Bool) (unread taken : Option (List ℕ)) (state : RunState)
+pub record IsUnderway (start : History) (text before : List ℕ) (ended : Bool) (unread taken : Option (List ℕ)) (state : RunState)
     (read rest written : List ℕ) (lines requests : List Bool) : Type 0 where
   pub text_is : text ≡ read ++ rest
   pub there : IsCutThere ended read rest
   pub unread_is : unread ≡ Some rest
   pub taken_is : taken ≡ Some (before ++ written)
-  pub goes_on : (c d : List Bool) (ends : Bool) (later : List (List ℕ)) → written_from first_state None (begun table) (lines ++ c)
+  pub goes_on : (c d : List Bool) (ends : Bool) (later : List (List ℕ)) → written_from first_state None start (lines ++ c)
       (requests ++ d) ends (lines_of read ++ later) ≡ written ++ written_from state.parser state.block state.session.history c d ends later
   pub last : (c : List Bool) (ends : Bool) (later : List (List ℕ))
       → last_line (logical_lines (lines ++ c) ends first_state (lines_of read ++ later))
       ≡ last_line (logical_lines c ends state.parser later)
 
 -- the same, of some reading and writing
-abbrev pub Underway : Collation → List ℕ → List ℕ → (ended : Bool) → Option (List ℕ) → Option (List ℕ) → RunState → Type 0
-Underway table text before ended unread taken state =
+abbrev pub Underway : History → List ℕ → List ℕ → (ended : Bool) → Option (List ℕ) → Option (List ℕ) → RunState → Type 0
+Underway start text before ended unread taken state =
     (read : List ℕ) × (rest : List ℕ) × (written : List ℕ) × (lines : List Bool) × (requests : List Bool)
-    × IsUnderway table text before ended unread taken state read rest written lines requests
+    × IsUnderway start text before ended unread taken state read rest written lines requests

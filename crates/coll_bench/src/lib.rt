@@ -10,7 +10,6 @@
 //! - `serving` for one line and `runs` for a text: a session (`Serving`, `Underway`, `Runs`); who serves more than its lines takes them
 //!   one by one (`RunState`);
 //! - `batches`: a table and delta files are read, and what is asked of the result is written (`BatchRuns` and those beside it);
-//! - `exports`: what is told of a table that is exported (`Exports`);
 //! - `laws`: what follows from these definitions (`Laws`);
 //! - `reports`: the line of a fault, and the exit status of the program (`Reports`).
 //!
@@ -18,7 +17,6 @@
 #![tactic(auto)]
 
 mod batches;
-mod exports;
 mod faults;
 mod kept_ranks;
 mod laws;
@@ -30,7 +28,6 @@ mod serving;
 
 pub use batches::{Batch, TakesStatements, read_delta, read_inputs, run_batch, run_batch_keyed};
 pub use coll_history::{BenchFault, Session};
-pub use exports::write_symbols_behind;
 pub use faults::{Fault, RunFault};
 pub use laws::{lack_of_memory_shows, refused_lines_change_nothing};
 pub use replies::write_history_line;

@@ -4,7 +4,7 @@
 
 ghost use Rattle.std.specs.Prelude.{◌≡◌, ◌<◌, ◌++◌, length, map, string_bytes, IfErr};
 ghost use Rattle.coll_devices.specs.Devices.{CountsErr, Sends, Writes};
-ghost use Rattle.coll_bench.specs.Reports.{fault_line, behind_name, exit_status as stated_status, write_refused};
+ghost use Rattle.coll_bench.specs.Reports.{fault_line, behind_name, exit_status as stated_status, failed_write};
 
 use crate::faults::{Fault, RunFault};
 use coll_devices::{Sink, WriteStop};
@@ -17,7 +17,7 @@ use coll_texts::{Piece, write_pieces};
 pub fn write_fault<W: Sink>(fault: &RunFault, names: &[String], out: &mut W) -> Result<(), Fault>
     requires named { fault.now.input < length names.now }
     ensures sent { Sends (W.taken out.old) (W.taken out.new) (fault_line (map string_bytes names.now) fault.now) result }
-    ensures fault { IfErr result (λ refused. refused ≡ write_refused) }
+    ensures fault { IfErr result (λ refused. refused ≡ failed_write) }
     ensures errors { CountsErr (W.failed out.old) (W.failed out.new) result }
 {
     match write_named(fault, names[fault.input].as_str(), out) {

@@ -7,10 +7,10 @@
 
 ghost use Rattle.std.specs.Prelude.{◌≡◌, true, IfErr};
 ghost use Rattle.coll_devices.specs.LineReading.{no_line};
-ghost use Rattle.coll_nodes.specs.Table.{Collation};
 ghost use Rattle.coll_nodes.specs.TableLayout.{collation};
-ghost use Rattle.coll_bench.specs.Serving.{IsBegun, EndsSession, CountsWrites, IsFlushedAfter, never_ran};
-ghost use Rattle.coll_bench.specs.Runs.{Runs, CountsReads};
+ghost use Rattle.coll_history.specs.Histories.{History};
+ghost use Rattle.coll_bench.specs.Serving.{IsAtStart, EndsSession, CountsWrites, IsFlushedAfter, never_ran};
+ghost use Rattle.coll_bench.specs.Runs.{Runs, RunsFrom, CountsReads};
 
 use crate::faults::{Fault, RunFault};
 use crate::serving::RunState;
@@ -49,15 +49,15 @@ pub fn run_session<R: Source, W: Sink>(
     }
 }
 
-// Serves the text of a source from a state of the run in which nothing has happened yet.
+// Serves the text of a source, of which nothing was read yet, from a state of the run in which no line was taken yet.
 fn serve_text<R: Source, W: Sink>(
     alloc: Global,
     state: &mut RunState,
     input: &mut R,
     output: &mut W,
 ) -> Result<(), RunFault>
-    ensures run { (table : Collation) → IsBegun state.old table
-        → Runs table (R.left input.old) (R.left input.new) (W.taken output.old) (W.taken output.new) result }
+    ensures run { (start : History) → IsAtStart state.old start
+        → RunsFrom start (R.left input.old) (R.left input.new) (W.taken output.old) (W.taken output.new) result }
     ensures input { IfErr result (λ ended. ended.input ≡ 0) }
     ensures ends { IfErr result (λ ended. EndsSession ended.fault) }
     ensures reads { CountsReads (R.failed input.old) (R.failed input.new) result }
@@ -83,8 +83,8 @@ fn serve_lines<R: Source, W: Sink>(
     output: &mut W,
 ) -> Result<(), RunFault>
     requires { reader.old ≡ no_line }
-    ensures run { (table : Collation) → IsBegun state.old table
-        → Runs table (R.left input.old) (R.left input.new) (W.taken output.old) (W.taken output.new) result }
+    ensures run { (start : History) → IsAtStart state.old start
+        → RunsFrom start (R.left input.old) (R.left input.new) (W.taken output.old) (W.taken output.new) result }
     ensures input { IfErr result (λ ended. ended.input ≡ 0) }
     ensures ends { IfErr result (λ ended. EndsSession ended.fault) }
     ensures reads { CountsReads (R.failed input.old) (R.failed input.new) result }

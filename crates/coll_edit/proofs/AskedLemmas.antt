@@ -8,7 +8,6 @@ use Rattle.coll_devices.specs.PhysicalLines.{IsInLine, lines_of}
 use Rattle.coll_devices.specs.LineReading.{Cuts}
 use Rattle.coll_devices.proofs.PhysicalLinesLemmas.{lines_of-cut}
 use Rattle.coll_lex.specs.LogicalLines.{LexerState, first_state, logical_lines, served, state_by}
-use Rattle.coll_nodes.specs.Table.{Collation}
 use Rattle.coll_requests.specs.OpenBlocks.{kept_requests}
 use Rattle.coll_requests.specs.Parsing.{parsed_at}
 use Rattle.coll_requests.specs.SessionLines.{parsed}
@@ -16,12 +15,12 @@ use Rattle.coll_requests.specs.Taking.{line_block, line_requests, stop_at}
 use Rattle.coll_requests.specs.declared.open_blocks.OpenBlock.{OpenBlock}
 use Rattle.coll_requests.specs.declared.requests.RequestAt.{RequestAt}
 use Rattle.coll_requests.proofs.BlockLemmas.{requests_kept}
-use Rattle.coll_bench.specs.Runs.{Runs}
-use Rattle.coll_bench.specs.Serving.{Served, ServesLine, block_of, lexer_of, line_replies}
+use Rattle.coll_bench.specs.Runs.{RunsFrom}
+use Rattle.coll_bench.specs.Serving.{IsAtStart, Served, ServesLine, block_of, history_of, lexer_of, line_replies}
 use Rattle.coll_bench.specs.declared.faults.RunFault.{RunFault}
 use Rattle.coll_bench.proofs.RunLemmas.{parsed_later, requests_on}
 use Rattle.coll_bench.proofs.RunSteps.{unread_after}
-use Rattle.coll_edit.specs.EditRuns.{IsBegunEdit, IsUnserved, LeavesSome, RunsAsSession, RunsUnanswered, leaves_one, requests_in}
+use Rattle.coll_edit.specs.EditRuns.{IsUnserved, LeavesSome, RunsAsSession, RunsUnanswered, leaves_one, requests_in}
 use Rattle.coll_edit.specs.Editing.{EditsLine, LeavesLine, has_answered, is_left, run_of, without_next}
 use Rattle.coll_edit.specs.declared.editors.Editor.{Editor}
 use Rattle.coll_edit.specs.declared.editors.Next.{Next}
@@ -42,9 +41,9 @@ pub record HasAsked (text : List ℕ) (unread : Option (List ℕ)) (editor : Edi
 abbrev pub Asked : (text : List ℕ) → (unread : Option (List ℕ)) → Editor → Type 0
 Asked text unread editor = (lines : List (List ℕ)) × (rest : List ℕ) × (starved : List Bool) × (asked : List RequestAt) × HasAsked text unread editor lines rest starved asked
 
--- of an edit in which nothing has happened yet, no line was served
-pub begun_unserved : (editor : Editor) (table : Collation) → IsBegunEdit editor table → IsUnserved editor
-begun_unserved editor table b = record { lexer = b.session.parser; block = b.session.block; unanswered = b.unanswered }
+-- an edit of which no line was served yet stands at the start of a text
+pub unserved_start : (editor : Editor) → IsUnserved editor → IsAtStart (run_of editor) (history_of (run_of editor))
+unserved_start editor u = record { parser = u.lexer; block = u.block; session = refl }
 
 -- nothing was asked for yet
 pub asked_begun : (text : List ℕ) (unread : Option (List ℕ)) (editor : Editor) → IsUnserved editor → unread ≡ Some text → Asked text unread editor
@@ -164,10 +163,10 @@ line_leaves text ended unread0 unread1 taken0 taken1 old new line r a cuts whole
     edits
 
 -- where nothing is left to `edit`, none of its lines was answered, and so the run is that of a session
-pub as_session : (editor : Editor) (table : Collation) (left left_after taken taken_after : Option (List ℕ)) (r : Result (Unit {0}) RunFault)
-    → RunsUnanswered editor table left left_after taken taken_after r → (has_answered editor ≡ true → LeavesSome left) → RunsAsSession table left left_after taken taken_after r
-as_session editor table left left_after taken taken_after r run some nothing = by_answered (has_answered editor) refl
+pub as_session : (old new : Editor) (left left_after taken taken_after : Option (List ℕ)) (r : Result (Unit {0}) RunFault)
+    → RunsUnanswered old new left left_after taken taken_after r → (has_answered new ≡ true → LeavesSome left) → RunsAsSession old left left_after taken taken_after r
+as_session old new left left_after taken taken_after r run some nothing = by_answered (has_answered new) refl
   where
-    by_answered : (b : Bool) → has_answered editor ≡ b → Runs table left left_after taken taken_after r
+    by_answered : (b : Bool) → has_answered new ≡ b → RunsFrom (history_of (run_of old)) left left_after taken taken_after r
     by_answered false is text before left_is taken_is = run is text before left_is taken_is
     by_answered true is text before left_is taken_is = let (starved, one) = some is text left_is in absurd (false≢true (sym (nothing text starved left_is) ∙ one))

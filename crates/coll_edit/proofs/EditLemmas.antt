@@ -4,7 +4,6 @@ use Rattle.std.specs.Prelude.{IfOk, OnOk, option_to_list}
 use Rattle.std.proofs.lemmas.Bool.{false≢true}
 use Rattle.coll_devices.specs.PhysicalLines.{IsInLine}
 use Rattle.coll_devices.specs.LineReading.{Cuts}
-use Rattle.coll_nodes.specs.Table.{Collation}
 use Rattle.coll_history.specs.Histories.{History, SessionValue}
 use Rattle.coll_requests.specs.declared.requests.RequestAt.{RequestAt}
 use Rattle.coll_requests.specs.declared.requests.Request.TheVariants as kind
@@ -83,24 +82,24 @@ look_leaves starved h line (command.Withdraw number) look = absurd look
 look_leaves starved h line command.Check look = absurd look
 
 -- an edit that goes on by a line, where no line of `edit` was answered
-pub underway_edited : (table : Collation) (text before : List ℕ) (ended ended2 : Bool) (unread0 unread1 taken0 taken1 : Option (List ℕ)) (old new : Editor) (line : List ℕ) (next : Next)
-    → (has_answered old ≡ false → Underway table text before ended unread0 taken0 (run_of old)) → ended ≡ false → Cuts ended2 unread0 unread1 line → IsInLine line
-    → EditsLine old new line taken0 taken1 (Ok next) → has_answered new ≡ false → Underway table text before ended2 unread1 taken1 (run_of new)
-underway_edited table text before ended ended2 unread0 unread1 taken0 taken1 old new line next u going cuts whole edits unanswered =
+pub underway_edited : (start : History) (text before : List ℕ) (ended ended2 : Bool) (unread0 unread1 taken0 taken1 : Option (List ℕ)) (old new : Editor) (line : List ℕ) (next : Next)
+    → (has_answered old ≡ false → Underway start text before ended unread0 taken0 (run_of old)) → ended ≡ false → Cuts ended2 unread0 unread1 line → IsInLine line
+    → EditsLine old new line taken0 taken1 (Ok next) → has_answered new ≡ false → Underway start text before ended2 unread1 taken1 (run_of new)
+underway_edited start text before ended ended2 unread0 unread1 taken0 taken1 old new line next u going cuts whole edits unanswered =
     ⊎_elim (λ (a : (has_answered new ≡ has_answered old) × ServesLine (run_of old) (run_of new) line taken0 taken1 (Ok tt)).
-    underway_on table text before ended ended2 unread0 unread1 taken0 taken1 (run_of old) (run_of new) line (u (sym a.0 ∙ unanswered)) going cuts whole a.1)
+    underway_on start text before ended ended2 unread0 unread1 taken0 taken1 (run_of old) (run_of new) line (u (sym a.0 ∙ unanswered)) going cuts whole a.1)
     (λ (a : (has_answered new ≡ true) × (memory : Bool) × (request : RequestAt) × LeavesLine memory (run_of old) (run_of new) line request).
     absurd (false≢true (sym unanswered ∙ a.0)))
     edits
 
 -- an edit that ends with the fault of a line, where no line of `edit` was answered
-pub edit_ended : (table : Collation) (text before : List ℕ) (left : Option (List ℕ)) (ended0 ended1 : Bool) (unread0 unread1 taken0 taken1 : Option (List ℕ)) (old new : Editor) (line : List ℕ)
+pub edit_ended : (start : History) (text before : List ℕ) (left : Option (List ℕ)) (ended0 ended1 : Bool) (unread0 unread1 taken0 taken1 : Option (List ℕ)) (old new : Editor) (line : List ℕ)
     (ended : RunFault)
-    → (has_answered old ≡ false → Underway table text before ended0 unread0 taken0 (run_of old)) → ended0 ≡ false → Cuts ended1 unread0 unread1 line → IsInLine line
-    → EditsLine old new line taken0 taken1 (Err ended) → has_answered new ≡ false → Leaves table text before left taken1 (Err ended)
-edit_ended table text before left ended0 ended1 unread0 unread1 taken0 taken1 old new line ended u going cuts whole edits unanswered =
+    → (has_answered old ≡ false → Underway start text before ended0 unread0 taken0 (run_of old)) → ended0 ≡ false → Cuts ended1 unread0 unread1 line → IsInLine line
+    → EditsLine old new line taken0 taken1 (Err ended) → has_answered new ≡ false → Leaves start text before left taken1 (Err ended)
+edit_ended start text before left ended0 ended1 unread0 unread1 taken0 taken1 old new line ended u going cuts whole edits unanswered =
     ⊎_elim (λ (a : (has_answered new ≡ has_answered old) × ServesLine (run_of old) (run_of new) line taken0 taken1 (Err ended)).
-    line_ended table text before left ended0 ended1 unread0 unread1 taken0 taken1 (run_of old) line ended (u (sym a.0 ∙ unanswered)) going cuts whole a.1)
+    line_ended start text before left ended0 ended1 unread0 unread1 taken0 taken1 (run_of old) line ended (u (sym a.0 ∙ unanswered)) going cuts whole a.1)
     (λ (a : (has_answered new ≡ true) × (memory : Bool) × (request : RequestAt) × LeavesLine memory (run_of old) (run_of new) line request).
     absurd (false≢true (sym unanswered ∙ a.0)))
     edits

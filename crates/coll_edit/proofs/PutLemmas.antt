@@ -1,5 +1,5 @@
 -- A statement that is put behind those that remain, and one that is refused.
-use Rattle.std.proofs.Common.{◌≡◌, ◌≢◌, ℕ, Bool, true, false, List, [], ◌∷◌, ◌++◌, map, Result, Ok, Err, refl, sym, ap, ◌∙◌, subst, append_assoc, length}
+use Rattle.std.proofs.Common.{◌≡◌, ◌≢◌, ℕ, Bool, true, false, List, [], ◌∷◌, ◌++◌, map, Result, Ok, Err, refl, sym, ap, ◌∙◌, subst, append_assoc, append-nil, length}
 use Rattle.std.specs.Prelude.{nat_le, if◌then◌else◌, OnOk}
 use Rattle.std.proofs.lemmas.List.{map-append}
 use Rattle.coll_syntax.specs.declared.statements.Statement.{Statement}
@@ -19,6 +19,7 @@ use Rattle.coll_bench.specs.BatchRuns.{ending_of}
 use Rattle.coll_bench.specs.declared.faults.Fault.TheVariants as fault
 use Rattle.coll_bench.specs.Serving.{history_of}
 use Rattle.coll_bench.specs.declared.faults.RunFault.{RunFault}
+use Rattle.coll_edit.specs.EditRuns.{IsUnserved, Leads}
 use Rattle.coll_edit.specs.Editing.{PutsBehind, run_of}
 use Rattle.coll_edit.specs.declared.editors.Editor.{Editor}
 
@@ -63,6 +64,7 @@ puts_behind first h after before at s same e behind =
       remaining = ap (λ (x : History). x.remaining) done ∙ ap (λ (l : List Statement). l ++ s ∷ []) behind.remaining
           ∙ append_assoc first.remaining (map f before) (s ∷ []) ∙ ap (λ (x : Statement). first.remaining ++ (map f before ++ x ∷ [])) same
           ∙ ap (λ (l : List Statement). first.remaining ++ l) (sym (map-append f before (at ∷ [])));
+      undone = λ none. ap (λ (x : History). x.undone) done;
     }
 
 -- the same of an answer
@@ -71,10 +73,21 @@ pub puts_ok : (input line : ℕ) (h after : History) (s t : Statement) (r : Resu
 puts_ok input line h after s t (Ok done) same e = puts input line h after s t same e
 puts_ok input line h after s t (Err ended) same e = tt
 
-pub reaches_ok : (h after : History) (at : StatementAt) (s : Statement) (r : Result (Unit {0}) RunFault) → s ≡ at.statement → OnOk r (judged h s ≡ Ok after)
-    → OnOk r ((start : Editor) (before : List StatementAt) → PutsBehind (history_of (run_of start)) before h → PutsBehind (history_of (run_of start)) (before ++ at ∷ []) after)
-reaches_ok h after at s (Ok done) same e = λ start before behind. puts_behind (history_of (run_of start)) h after before at s same e behind
-reaches_ok h after at s (Err ended) same e = tt
+pub reaches_ok : (old new : Editor) (at : StatementAt) (s : Statement) (r : Result (Unit {0}) RunFault) → s ≡ at.statement
+    → OnOk r (judged (history_of (run_of old)) s ≡ Ok (history_of (run_of new))) → (IsUnserved old → IsUnserved new)
+    → OnOk r ((start : Editor) (before : List StatementAt) → Leads start before old → Leads start (before ++ at ∷ []) new)
+reaches_ok old new at s (Ok done) same e kept = λ start before led. record {
+  puts = puts_behind (history_of (run_of start)) (history_of (run_of old)) (history_of (run_of new)) before at s same e led.puts;
+  unserved = λ u. kept (led.unserved u);
+}
+reaches_ok old new at s (Err ended) same e kept = tt
+
+-- no statement was put yet
+pub nothing_put : (editor : Editor) → Leads editor [] editor
+nothing_put editor = record {
+  puts = record { start = refl; remaining = sym (append-nil (history_of (run_of editor)).remaining); undone = λ none. none };
+  unserved = λ u. u;
+}
 
 refused_by : (h : History) (s : Statement) (r : Refusal) (answer : Result Collation Refusal) → judged_by h s answer ≡ Err (Table r) → answer ≡ Err r
 refused_by h s r (Ok table) e = absurd cc

@@ -3,20 +3,16 @@ use Rattle.std.specs.Prelude.{◌≡◌, ℕ, Bool, true, false, List, map, Opti
 use Rattle.std.specs.List.{list_any}
 use Rattle.coll_devices.specs.PhysicalLines.{lines_of}
 use Rattle.coll_lex.specs.LogicalLines.{first_state, logical_lines}
-use Rattle.coll_nodes.specs.Table.{Collation}
+use Rattle.coll_history.specs.Histories.{History}
 use Rattle.coll_requests.specs.SessionLines.{parsed}
 use Rattle.coll_requests.specs.Requests.{requests}
+use Rattle.coll_requests.specs.declared.delta_files.StatementAt.{StatementAt}
 use Rattle.coll_requests.specs.declared.requests.RequestAt.{RequestAt}
-use Rattle.coll_bench.specs.Runs.{Runs}
-use Rattle.coll_bench.specs.Serving.{IsBegun, block_of, lexer_of}
+use Rattle.coll_bench.specs.Runs.{RunsFrom}
+use Rattle.coll_bench.specs.Serving.{block_of, history_of, lexer_of}
 use Rattle.coll_bench.specs.declared.faults.RunFault.{RunFault}
-use Rattle.coll_edit.specs.Editing.{has_answered, is_left, run_of}
+use Rattle.coll_edit.specs.Editing.{PutsBehind, has_answered, is_left, run_of}
 use Rattle.coll_edit.specs.declared.editors.Editor.{Editor}
-
--- an edit of a table in which nothing has happened yet
-pub record IsBegunEdit (editor : Editor) (table : Collation) : Type 0 where
-  pub session : IsBegun (run_of editor) table
-  pub unanswered : has_answered editor ≡ false
 
 -- an edit of which no line was served yet
 pub record IsUnserved (editor : Editor) : Type 0 where
@@ -24,10 +20,15 @@ pub record IsUnserved (editor : Editor) : Type 0 where
   pub block : block_of (run_of editor) ≡ None
   pub unanswered : has_answered editor ≡ false
 
--- no line of `edit` was answered, and so the run was that of a session
-abbrev pub RunsUnanswered : Editor → Collation → (left left_after taken taken_after : Option (List ℕ)) → Result (Unit {0}) RunFault → Type 0
-RunsUnanswered editor table left left_after taken taken_after r =
-    has_answered editor ≡ false → Runs table left left_after taken taken_after r
+-- these statements were put behind those that remained of an edit, which serves no line by that
+pub record Leads (start : Editor) (given : List StatementAt) (now : Editor) : Type 0 where
+  pub puts : PutsBehind (history_of (run_of start)) given (history_of (run_of now))
+  pub unserved : IsUnserved start → IsUnserved now
+
+-- no line of `edit` was answered, and so the run was that of a session behind the history of the edit, which it began with
+abbrev pub RunsUnanswered : (old new : Editor) → (left left_after taken taken_after : Option (List ℕ)) → Result (Unit {0}) RunFault → Type 0
+RunsUnanswered old new left left_after taken taken_after r =
+    has_answered new ≡ false → RunsFrom (history_of (run_of old)) left left_after taken taken_after r
 
 -- the requests of a session text, where memory was refused to these lines
 abbrev pub requests_in : (starved : List Bool) → (text : List ℕ) → List RequestAt
@@ -45,6 +46,8 @@ LeavesNothing left = (text : List ℕ) (starved : List Bool) → left ≡ Some t
 abbrev pub LeavesSome : (left : Option (List ℕ)) → Type 0
 LeavesSome left = (text : List ℕ) → left ≡ Some text → (starved : List Bool) × (leaves_one (requests_in starved text) ≡ true)
 
--- the law of an edit: where a session would refuse nothing of the text with 29 or 64, the run is that of the session
-abbrev pub RunsAsSession : Collation → (left left_after taken taken_after : Option (List ℕ)) → Result (Unit {0}) RunFault → Type 0
-RunsAsSession table left left_after taken taken_after r = LeavesNothing left → Runs table left left_after taken taken_after r
+-- the law of an edit: where a session would refuse nothing of the text with 29 or 64, the run is that of a session behind the history
+-- of the edit, in which the statements of delta files are the first
+abbrev pub RunsAsSession : Editor → (left left_after taken taken_after : Option (List ℕ)) → Result (Unit {0}) RunFault → Type 0
+RunsAsSession editor left left_after taken taken_after r =
+    LeavesNothing left → RunsFrom (history_of (run_of editor)) left left_after taken taken_after r

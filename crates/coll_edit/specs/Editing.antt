@@ -27,10 +27,11 @@ run_of editor = editor.run
 abbrev pub has_answered : Editor → Bool
 has_answered editor = editor.answered
 
--- these statements were put behind those that remained
+-- these statements were put behind those that remained, and where none was taken back, none is
 pub record PutsBehind (before : History) (given : List StatementAt) (after : History) : Type 0 where
   pub start : after.start ≡ before.start
   pub remaining : after.remaining ≡ before.remaining ++ map (λ (at : StatementAt). at.statement) given
+  pub undone : before.undone ≡ [] → after.undone ≡ []
 
 -- a request that a session refuses with 29 or 64, and so leaves to `edit`
 abbrev pub is_left : Request → Bool

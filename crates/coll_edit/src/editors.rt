@@ -14,7 +14,7 @@ ghost use Rattle.coll_syntax.specs.Proper.{IsProper};
 ghost use Rattle.coll_bench.specs.Replies.{refused_lines};
 ghost use Rattle.coll_bench.specs.Serving.{FinishesWith, IsCutOff, history_after_all, replies_to, too_long};
 ghost use Rattle.coll_bench.specs.Serving.{block_of, history_of, lexer_of, write_failed as failed_write};
-ghost use Rattle.coll_history.specs.Histories.{judged, table_now};
+ghost use Rattle.coll_history.specs.Histories.{begun, judged, table_now};
 ghost use Rattle.coll_table.specs.Delta.{delta as delta_of};
 ghost use Rattle.coll_lex.specs.declared.faults.LexFault.TheVariants.{OutOfMemory};
 ghost use Rattle.coll_bench.specs.BatchOutcome.{after_delta, fault_in, judged_at, statements_of};
@@ -22,7 +22,7 @@ ghost use Rattle.coll_bench.specs.BatchReading.{FailsAs};
 ghost use Rattle.coll_bench.specs.BatchRuns.{ending_of};
 ghost use Rattle.coll_bench.specs.declared.faults.Fault.TheVariants as lex_fault;
 ghost use Rattle.coll_edit.specs.Editing.{AnswersRequest, EditsLine, IsLeft, IsLook, PutsBehind, has_answered as answered_by, run_of};
-ghost use Rattle.coll_edit.specs.EditRuns.{IsBegunEdit};
+ghost use Rattle.coll_edit.specs.EditRuns.{IsUnserved};
 ghost use Rattle.coll_edit.specs.Watching.{device_of};
 
 use crate::copies::copied_statement;
@@ -70,7 +70,8 @@ pub(crate) enum Next {
 impl Editor {
     /// An edit of a table, in which nothing has happened yet.
     pub fn new(alloc: Global, table: Table) -> Result<Editor, AllocError>
-        ensures { IfOk result (λ editor. IsBegunEdit editor (collation table)) }
+        ensures unserved { IfOk result (λ editor. IsUnserved editor) }
+        ensures history { IfOk result (λ editor. history_of (run_of editor) ≡ begun (collation table)) }
     {
         let run = RunState::new(alloc, table)?;
         Ok(Editor {
@@ -89,6 +90,7 @@ impl Editor {
     pub fn put_delta<R: Source>(&mut self, input: usize, delta: &mut R) -> Result<(), RunFault>
         ensures put { OnOk result ((text : List ℕ) → R.left delta.old ≡ Some text
             → PutsBehind (history_of (run_of self.old)) (statements_of text) (history_of (run_of self.new))) }
+        ensures unserved { OnOk result ((text : List ℕ) → R.left delta.old ≡ Some text → IsUnserved self.old → IsUnserved self.new) }
         ensures file { OnOk result ((text : List ℕ) → R.left delta.old ≡ Some text
             → after_delta input (table_now (history_of (run_of self.old))) text ≡ Ok (table_now (history_of (run_of self.new)))) }
         ensures input { IfErr result (λ ended. ended.input ≡ input) }
@@ -119,6 +121,7 @@ impl Editor {
             (judged_at input line (delta_of (table_now (history_of (run_of self.old))) statement)) ended) }
         ensures number { IfErr result (λ ended. ended.line ≡ line) }
         ensures input { IfErr result (λ ended. ended.input ≡ input) }
+        ensures unserved { IsUnserved self.old → IsUnserved self.new }
     {
         match self.run.statement(statement) {
             Ok(_) => Ok(()),
@@ -571,11 +574,12 @@ impl Editor {
 impl TakesStatements for Editor {
     ghost use Rattle.coll_history.specs.Histories.{table_now};
     ghost use Rattle.coll_bench.specs.Serving.{history_of};
-    ghost use Rattle.coll_edit.specs.Editing.{PutsBehind, run_of};
+    ghost use Rattle.coll_edit.specs.EditRuns.{Leads};
+    ghost use Rattle.coll_edit.specs.Editing.{run_of};
 
     ghost table = { λ editor. table_now (history_of (run_of editor)) };
 
-    ghost Reaches = { λ start given now. PutsBehind (history_of (run_of start)) given (history_of (run_of now)) };
+    ghost Reaches = { λ start given now. Leads start given now };
 
     fn put(&mut self, input: usize, at: &StatementAt) -> Result<(), RunFault> {
         match copied_statement(self.alloc, &at.statement) {
@@ -584,9 +588,9 @@ impl TakesStatements for Editor {
         }
     }
 
-    ghost stays = { λ editor. record { start = refl; remaining = sym (append-nil (history_of (run_of editor)).remaining) } };
+    ghost stays = { λ editor. nothing_put editor };
 
-    ghost use Rattle.std.proofs.Common.{refl, sym, append-nil};
+    ghost use Rattle.coll_edit.proofs.PutLemmas.{nothing_put};
 }
 
 // Lack of memory at a line of an input.

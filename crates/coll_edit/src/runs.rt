@@ -2,9 +2,8 @@
 
 ghost use Rattle.std.specs.Prelude.{◌≡◌, true, IfErr};
 ghost use Rattle.coll_devices.specs.LineReading.{no_line};
-ghost use Rattle.coll_nodes.specs.Table.{Collation};
 ghost use Rattle.coll_bench.specs.Serving.{never_ran};
-ghost use Rattle.coll_edit.specs.EditRuns.{IsBegunEdit, IsUnserved, LeavesSome, RunsAsSession, RunsUnanswered};
+ghost use Rattle.coll_edit.specs.EditRuns.{IsUnserved, LeavesSome, RunsAsSession, RunsUnanswered};
 ghost use Rattle.coll_edit.specs.Editing.{has_answered};
 ghost use Rattle.coll_edit.specs.Watching.{device_of};
 
@@ -27,11 +26,11 @@ pub fn edit_lines<R: Source, W: Sink, M: Sink, F: OpensFiles>(
     files: &mut F,
     prompts: bool,
 ) -> Result<(), RunFault>
-    ensures run { (table : Collation) → IsBegunEdit editor.old table
-        → RunsUnanswered editor.new table (R.left input.old) (R.left input.new) (W.taken (device_of output.old))
+    ensures run { IsUnserved editor.old
+        → RunsUnanswered editor.old editor.new (R.left input.old) (R.left input.new) (W.taken (device_of output.old))
         (W.taken (device_of output.new)) result }
-    ensures session { (table : Collation) → IsBegunEdit editor.old table
-        → RunsAsSession table (R.left input.old) (R.left input.new) (W.taken (device_of output.old))
+    ensures session { IsUnserved editor.old
+        → RunsAsSession editor.old (R.left input.old) (R.left input.new) (W.taken (device_of output.old))
         (W.taken (device_of output.new)) result }
     ensures input { IfErr result (λ ended. ended.input ≡ 0) }
 {
@@ -56,8 +55,8 @@ fn serve_lines<R: Source, W: Sink, M: Sink, F: OpensFiles>(
     prompts: bool,
 ) -> Result<(), RunFault>
     requires { reader.old ≡ no_line }
-    ensures run { (table : Collation) → IsBegunEdit editor.old table
-        → RunsUnanswered editor.new table (R.left input.old) (R.left input.new) (W.taken (device_of output.old))
+    ensures run { IsUnserved editor.old
+        → RunsUnanswered editor.old editor.new (R.left input.old) (R.left input.new) (W.taken (device_of output.old))
         (W.taken (device_of output.new)) result }
     ensures left { IsUnserved editor.old → has_answered editor.new ≡ true → LeavesSome (R.left input.old) }
     ensures input { IfErr result (λ ended. ended.input ≡ 0) }

@@ -10,9 +10,12 @@
 //! - `placing`: order line after order line, into these;
 //! - `building`, with `proper_lines`: the table, built of all that (`Building`);
 //! - `reports`: what is told of it (`ReportText`).
+//!
+//! And the way back: `exports` has what is told of a table that is exported (`Exports`). The exported text itself is for coll_texts.
 #![tactic(auto)]
 
 mod building;
+mod exports;
 mod orders;
 mod placing;
 mod proper_lines;
@@ -20,4 +23,5 @@ mod reports;
 mod rules;
 
 pub use building::import_table;
+pub use exports::write_symbols_behind;
 pub use reports::{write_report, write_source_fault};

@@ -23,9 +23,9 @@ mod words;
 
 use coll_bench::{
     Batch, Fault, RunFault, exit_status, read_inputs, run_batch_keyed, run_session, write_fault,
-    write_symbols_behind,
 };
 use coll_command_line::{Request, Task, Unasked, read_words};
+use coll_import::write_symbols_behind;
 use coll_lex::{Counted, LexFault, ReadStop, Sink, TextBuf, WriteStop};
 use coll_table::{HashKeys, Table};
 use differences::{read_at, tell_differences};

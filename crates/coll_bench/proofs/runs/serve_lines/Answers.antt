@@ -17,20 +17,20 @@ lines-init g c = record {
   reads = refl;
   writes = refl;
   flushed = λ all. all;
-  underway = λ table text before begins left_is taken_is.
-      underway_begun table text before c.args.reader.now.ended (unread c.args.reader.now (g.R.Source.left c.args.input.now)) (g.W.Sink.taken c.args.output.now) c.args.state.now begins
+  underway = λ start text before begins left_is taken_is.
+      underway_begun start text before c.args.reader.now.ended (unread c.args.reader.now (g.R.Source.left c.args.input.now)) (g.W.Sink.taken c.args.output.now) c.args.state.now begins
       (ap (λ (r : ReaderState). r.ended) c.requires) (unread_begun c.args.reader.now (g.R.Source.left c.args.input.now) text c.requires left_is) taken_is;
 }
 
 pub returns-in-Err-serve-clause-run : goal.returns-in-Err-serve-clause-run
-returns-in-Err-serve-clause-run g c table begins text before left_is taken_is =
+returns-in-Err-serve-clause-run g c start begins text before left_is taken_is =
     let left = g.R.Source.left in
     let taken = g.W.Sink.taken in
     let line = gives_line c.lines.reader c.advance.new.self (left c.lines.input) (left c.advance.new.input) (g.R.Source.failed c.lines.input) (g.R.Source.failed c.advance.new.input)
     c.in-Ok-true.field-0 c.in-Ok-true.ensures c.in-Ok-true.field-0-test in
-    line_ended table text before (left c.advance.new.input) c.lines.reader.ended c.advance.new.self.ended (unread c.lines.reader (left c.lines.input))
+    line_ended start text before (left c.advance.new.input) c.lines.reader.ended c.advance.new.self.ended (unread c.lines.reader (left c.lines.input))
     (unread c.advance.new.self (left c.advance.new.input)) (taken c.lines.output) (taken c.serve.new.output)
-    c.lines.state c.line.result.now c.in-Err-serve.ended (c.lines.invariant.underway table text before begins left_is taken_is) line.not_ended
+    c.lines.state c.line.result.now c.in-Err-serve.ended (c.lines.invariant.underway start text before begins left_is taken_is) line.not_ended
     (subst (λ (l : List ℕ). Cuts c.advance.new.self.ended (unread c.lines.reader (left c.lines.input)) (unread c.advance.new.self (left c.advance.new.input)) l) (sym c.line.ensures) line.cut)
     (subst (λ (l : List ℕ). IsInLine l) (sym c.line.ensures) line.whole) c.in-Err-serve.ensures.served
 
@@ -45,23 +45,23 @@ lines-preserved g c =
       reads = line.count ∙ c.lines.invariant.reads;
       writes = c.in_default.ensures.errors ∙ c.lines.invariant.writes;
       flushed = λ all. c.in_default.ensures.flushed (c.lines.invariant.flushed all);
-      underway = λ table text before begins left_is taken_is.
-          underway_on table text before c.lines.reader.ended c.advance.new.self.ended (unread c.lines.reader (left c.lines.input)) (unread c.advance.new.self (left c.advance.new.input))
+      underway = λ start text before begins left_is taken_is.
+          underway_on start text before c.lines.reader.ended c.advance.new.self.ended (unread c.lines.reader (left c.lines.input)) (unread c.advance.new.self (left c.advance.new.input))
           (taken c.lines.output) (taken c.serve.new.output) c.lines.state c.serve.new.self c.line.result.now
-          (c.lines.invariant.underway table text before begins left_is taken_is) line.not_ended
+          (c.lines.invariant.underway start text before begins left_is taken_is) line.not_ended
           (subst (λ (l : List ℕ). Cuts c.advance.new.self.ended (unread c.lines.reader (left c.lines.input)) (unread c.advance.new.self (left c.advance.new.input)) l) (sym c.line.ensures) line.cut)
           (subst (λ (l : List ℕ). IsInLine l) (sym c.line.ensures) line.whole) c.in_default.ensures.served;
     }
 
 pub returns-in-Ok-false-clause-run : goal.returns-in-Ok-false-clause-run
-returns-in-Ok-false-clause-run g c table begins text before left_is taken_is =
+returns-in-Ok-false-clause-run g c start begins text before left_is taken_is =
     let left = g.R.Source.left in
     let taken = g.W.Sink.taken in
     let end = gives_end c.lines.reader c.advance.new.self (left c.lines.input) (left c.advance.new.input) (g.R.Source.failed c.lines.input) (g.R.Source.failed c.advance.new.input)
     c.in-Ok-false.field-0 c.in-Ok-false.ensures c.in-Ok-false.field-0-test in
-    text_ended table text before c.lines.reader c.advance.new.self (left c.lines.input) (left c.advance.new.input) (taken c.lines.output) (taken c.finish.new.output) (g.R.Source.failed c.lines.input)
+    text_ended start text before c.lines.reader c.advance.new.self (left c.lines.input) (left c.advance.new.input) (taken c.lines.output) (taken c.finish.new.output) (g.R.Source.failed c.lines.input)
     (g.R.Source.failed c.advance.new.input)
-    c.lines.state c.finish.result (c.lines.invariant.underway table text before begins left_is taken_is) end c.finish.ensures.ended
+    c.lines.state c.finish.result (c.lines.invariant.underway start text before begins left_is taken_is) end c.finish.ensures.ended
 
 pub returns-in-Ok-false-clause-reads : goal.returns-in-Ok-false-clause-reads
 returns-in-Ok-false-clause-reads g c =
@@ -73,15 +73,15 @@ returns-in-Ok-false-clause-reads g c =
     (count_at_end c.lines.reader c.advance.new.self (left c.lines.input) (left c.advance.new.input) (failed c.lines.input) (failed c.advance.new.input) end) c.finish.ensures.reads
 
 pub returns-in-Err-clause-run : goal.returns-in-Err-clause-run
-returns-in-Err-clause-run g c table begins text before left_is taken_is =
+returns-in-Err-clause-run g c start begins text before left_is taken_is =
     let left = g.R.Source.left in
     let taken = g.W.Sink.taken in
     let failed = g.R.Source.failed in
     let stop = stops_now c.lines.reader c.advance.new.self (left c.lines.input) (left c.advance.new.input) (failed c.lines.input) (failed c.advance.new.input) c.in-Err.stop c.in-Err.ensures
     c.lines.invariant.going in
-    cut_off_ended table text before c.lines.reader c.advance.new.self (left c.lines.input) (left c.advance.new.input) (taken c.lines.output) (taken c.cut_off.new.output) (failed c.lines.input)
+    cut_off_ended start text before c.lines.reader c.advance.new.self (left c.lines.input) (left c.advance.new.input) (taken c.lines.output) (taken c.cut_off.new.output) (failed c.lines.input)
     (failed c.advance.new.input)
-    c.lines.state c.in-Err.stop c.cut_off.result stop (c.lines.invariant.underway table text before begins left_is taken_is) c.cut_off.ensures.ended
+    c.lines.state c.in-Err.stop c.cut_off.result stop (c.lines.invariant.underway start text before begins left_is taken_is) c.cut_off.ensures.ended
 
 pub returns-in-Err-clause-reads : goal.returns-in-Err-clause-reads
 returns-in-Err-clause-reads g c =

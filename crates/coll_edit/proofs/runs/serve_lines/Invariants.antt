@@ -3,10 +3,9 @@
 use Rattle.std.proofs.Common.{◌≡◌, false, ℕ, ◌-◌, List, Some, None}
 use Rattle.coll_devices.specs.LineReading.{unread}
 use Rattle.coll_lex.specs.Limits.{most_lines}
-use Rattle.coll_nodes.specs.Table.{Collation}
-use Rattle.coll_bench.specs.Serving.{lexer_of}
+use Rattle.coll_bench.specs.Serving.{history_of, lexer_of}
 use Rattle.coll_bench.specs.Underway.{Underway}
-use Rattle.coll_edit.specs.EditRuns.{IsBegunEdit, IsUnserved}
+use Rattle.coll_edit.specs.EditRuns.{IsUnserved}
 use Rattle.coll_edit.specs.Editing.{has_answered, run_of}
 use Rattle.coll_edit.specs.Watching.{device_of}
 use Rattle.coll_edit.proofs.AskedLemmas.{Asked}
@@ -19,8 +18,8 @@ abbrev pub invariant-lines : goal.invariant-lines
 invariant-lines g l =
     record {
       going : l.reader.stop ≡ None;
-      underway : (table : Collation) (text before : List ℕ) → IsBegunEdit l.initial.editor table → g.R.Source.left l.initial.input ≡ Some text
+      underway : (text before : List ℕ) → IsUnserved l.initial.editor → g.R.Source.left l.initial.input ≡ Some text
           → g.W.Sink.taken (device_of l.initial.output) ≡ Some before → has_answered l.editor ≡ false
-          → Underway table text before l.reader.ended (unread l.reader (g.R.Source.left l.input)) (g.W.Sink.taken (device_of l.output)) (run_of l.editor);
+          → Underway (history_of (run_of l.initial.editor)) text before l.reader.ended (unread l.reader (g.R.Source.left l.input)) (g.W.Sink.taken (device_of l.output)) (run_of l.editor);
       asked : (text : List ℕ) → IsUnserved l.initial.editor → g.R.Source.left l.initial.input ≡ Some text → Asked text (unread l.reader (g.R.Source.left l.input)) l.editor;
     }

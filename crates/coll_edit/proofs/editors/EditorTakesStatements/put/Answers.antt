@@ -11,4 +11,4 @@ returns-in-Ok-clause-ok c =
 
 pub returns-in-Ok-clause-reaches : goal.returns-in-Ok-clause-reaches
 returns-in-Ok-clause-reaches c =
-    reaches_ok (history_of (run_of c.args.self.now)) (history_of (run_of c.put_copy.new.self)) c.args.at.now c.in-Ok.statement c.put_copy.result c.in-Ok.ensures c.put_copy.ensures.ok
+    reaches_ok c.args.self.now c.put_copy.new.self c.args.at.now c.in-Ok.statement c.put_copy.result c.in-Ok.ensures c.put_copy.ensures.ok c.put_copy.ensures.unserved

@@ -1,8 +1,8 @@
 -- The lines are those of what a walk visits behind the first character.
 use Rattle.std.proofs.Common.{rules}
 use Rattle.coll_nodes.specs.TableLayout.{collation}
-use Rattle.coll_bench.proofs.ExportLemmas.{told_visited}
-use Rattle.coll_bench.proofs.exports.write_symbols_behind.Goals as goal
+use Rattle.coll_import.proofs.ExportLemmas.{told_visited}
+use Rattle.coll_import.proofs.exports.write_symbols_behind.Goals as goal
 
 pub returns : goal.returns
 returns g c =

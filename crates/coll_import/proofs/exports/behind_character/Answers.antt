@@ -1,9 +1,9 @@
 -- The first character ends the loop, and what is left then stands behind it.
 use Rattle.std.proofs.Common.{sym, ap, ◌∙◌}
 use Rattle.coll_nodes.specs.WalkItems.{visited_by}
-use Rattle.coll_bench.specs.Exports.{behind_character}
-use Rattle.coll_bench.proofs.ExportLemmas.{at_character, before_character}
-use Rattle.coll_bench.proofs.exports.behind_character.Goals as goal
+use Rattle.coll_import.specs.Exports.{behind_character}
+use Rattle.coll_import.proofs.ExportLemmas.{at_character, before_character}
+use Rattle.coll_import.proofs.exports.behind_character.Goals as goal
 
 pub returns-then-visits_character : goal.returns-then-visits_character
 returns-then-visits_character c =

@@ -4,7 +4,7 @@ use Rattle.std.specs.List.{flat_map}
 use Rattle.std.proofs.lemmas.Grind.{flat_map-append}
 use Rattle.coll_nodes.specs.Table.{Collation}
 use Rattle.coll_nodes.specs.Walks.{Visited, visited}
-use Rattle.coll_bench.specs.Exports.{visits_character, behind_character, symbol_visited, symbols_behind, behind_line, export_told, visited_told}
+use Rattle.coll_import.specs.Exports.{visits_character, behind_character, symbol_visited, symbols_behind, behind_line, export_told, visited_told}
 
 -- the lines of what is visited are those of its symbols
 told_each : (file : List ℕ) (table : Collation) (items : List Visited) → flat_map (behind_line file) (flat_map (symbol_visited table.declared) items) ≡ flat_map

@@ -8,8 +8,8 @@ ghost use Rattle.std.specs.List.{flat_map};
 ghost use Rattle.coll_devices.specs.Devices.{Writes};
 ghost use Rattle.coll_nodes.specs.TableLayout.{collation};
 ghost use Rattle.coll_nodes.specs.WalkItems.{visited_by};
-ghost use Rattle.coll_bench.specs.Exports.{behind_character as stated_behind, behind_line, export_told, if_symbol, visited_told};
-ghost use Rattle.coll_bench.specs.Exports.{is_character as stated_character, visits_character as visits_stated};
+ghost use Rattle.coll_import.specs.Exports.{behind_character as stated_behind, behind_line, export_told, if_symbol, visited_told};
+ghost use Rattle.coll_import.specs.Exports.{is_character as stated_character, visits_character as visits_stated};
 
 use coll_devices::{Sink, WriteStop};
 use coll_nodes::{Walk, WalkItem};

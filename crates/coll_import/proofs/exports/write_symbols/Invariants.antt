@@ -1,9 +1,9 @@
 -- What is written and what is left are the whole.
 use Rattle.std.proofs.Common.{◌≡◌}
 use Rattle.coll_nodes.specs.TableLayout.{collation}
-use Rattle.coll_bench.specs.Exports.{visited_told}
+use Rattle.coll_import.specs.Exports.{visited_told}
 use Rattle.coll_texts.proofs.PrintedParts.{HasWritten}
-use Rattle.coll_bench.proofs.exports.write_symbols.Given as goal
+use Rattle.coll_import.proofs.exports.write_symbols.Given as goal
 
 abbrev pub invariant-symbols : goal.invariant-symbols
 invariant-symbols g l =

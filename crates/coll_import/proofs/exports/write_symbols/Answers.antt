@@ -2,9 +2,9 @@
 use Rattle.std.proofs.Common.{◌∙◌, rules}
 use Rattle.coll_nodes.specs.TableLayout.{collation}
 use Rattle.coll_nodes.specs.WalkItems.{visited_by}
-use Rattle.coll_bench.specs.Exports.{visited_told}
+use Rattle.coll_import.specs.Exports.{visited_told}
 use Rattle.coll_texts.proofs.PrintedParts.{written_prefix, written_more}
-use Rattle.coll_bench.proofs.exports.write_symbols.Goals as goal
+use Rattle.coll_import.proofs.exports.write_symbols.Goals as goal
 
 pub returns-in-Err : goal.returns-in-Err
 returns-in-Err g c =
