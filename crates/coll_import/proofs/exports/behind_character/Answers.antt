@@ -1,7 +1,6 @@
 -- The first character ends the loop, and what is left then stands behind it.
-use Rattle.std.proofs.Common.{sym, ap, ◌∙◌}
+use Rattle.std.proofs.Common.{sym, ◌∙◌}
 use Rattle.coll_nodes.specs.WalkItems.{visited_by}
-use Rattle.coll_import.specs.Exports.{behind_character}
 use Rattle.coll_import.proofs.ExportLemmas.{at_character, before_character}
 use Rattle.coll_import.proofs.exports.behind_character.Goals as goal
 
