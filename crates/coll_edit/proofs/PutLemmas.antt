@@ -1,5 +1,5 @@
 -- A statement that is put behind those that remain, and one that is refused.
-use Rattle.std.proofs.Common.{◌≡◌, ◌≢◌, ℕ, Bool, true, false, List, [], ◌∷◌, ◌++◌, map, Result, Ok, Err, refl, sym, ap, ◌∙◌, subst, append_assoc, append-nil, length}
+use Rattle.std.proofs.Common.{◌≡◌, ◌≢◌, ℕ, Bool, true, false, List, [], ◌∷◌, ◌++◌, map, Result, Ok, Err, refl, sym, ap, ◌∙◌, subst, append_assoc, length}
 use Rattle.std.specs.Prelude.{nat_le, if◌then◌else◌, OnOk}
 use Rattle.std.proofs.lemmas.List.{map-append}
 use Rattle.coll_syntax.specs.declared.statements.Statement.{Statement}
@@ -81,13 +81,6 @@ reaches_ok old new at s (Ok done) same e kept = λ start before led. record {
   unserved = λ u. kept (led.unserved u);
 }
 reaches_ok old new at s (Err ended) same e kept = tt
-
--- no statement was put yet
-pub nothing_put : (editor : Editor) → Leads editor [] editor
-nothing_put editor = record {
-  puts = record { start = refl; remaining = sym (append-nil (history_of (run_of editor)).remaining); undone = λ none. none };
-  unserved = λ u. u;
-}
 
 refused_by : (h : History) (s : Statement) (r : Refusal) (answer : Result Collation Refusal) → judged_by h s answer ≡ Err (Table r) → answer ≡ Err r
 refused_by h s r (Ok table) e = absurd cc

@@ -588,9 +588,12 @@ impl TakesStatements for Editor {
         }
     }
 
-    ghost stays = { λ editor. nothing_put editor };
+    ghost stays = { λ editor. record {
+        puts = record { start = refl; remaining = sym (append-nil (history_of (run_of editor)).remaining); undone = λ none. none };
+        unserved = λ kept. kept;
+    } };
 
-    ghost use Rattle.coll_edit.proofs.PutLemmas.{nothing_put};
+    ghost use Rattle.std.proofs.Common.{refl, sym, append-nil};
 }
 
 // Lack of memory at a line of an input.
