@@ -4,7 +4,6 @@
 //! weight names what isn't declared or has no entry.
 
 use crate::collecting::Collected;
-use crate::findings::About;
 use crate::line_surveys::{Opening, TakesLines, survey_lines};
 use crate::subjects::about_id;
 use coll_bench::Fault;
