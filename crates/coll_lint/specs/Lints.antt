@@ -1,5 +1,6 @@
 -- What is told of texts: what a batch answers to them says whether they have a fault, and which one is told first (the project's own).
-use Rattle.std.specs.Prelude.{◌≡◌, ◌⊎◌, ◌==◌, ◌||◌, ℕ, Bool, true, false, nat_lt, List, [], ◌∷◌, ◌++◌, length, Option, Some, Result, Ok, Err}
+use Rattle.std.specs.Prelude.{◌≡◌, ◌⊎◌, ◌==◌, ◌||◌, ℕ, Bool, true, false, nat_lt, Option, Some, Result, Ok, Err}
+use Rattle.std.specs.Prelude.{List, [], ◌∷◌, ◌++◌, length}
 use Rattle.coll_nodes.specs.Table.{Collation}
 use Rattle.coll_bench.specs.BatchOutcome.{after_inputs}
 use Rattle.coll_bench.specs.Faults.{fault_number}
@@ -37,7 +38,8 @@ WritesLint names table_text delta_texts written at_fault =
 
 -- what a run did that ended with a fault: nothing is written, and the fault is none of the texts; or a write failed, which leaves a
 -- prefix of what is told
-abbrev pub LintStops : (names : List (List ℕ)) → (table_text : List ℕ) → (delta_texts : List (List ℕ)) → (written : List ℕ) → RunFault → Type 0
+abbrev pub LintStops : (names : List (List ℕ)) → (table_text : List ℕ) → (delta_texts : List (List ℕ)) → (written : List ℕ)
+    → RunFault → Type 0
 LintStops names table_text delta_texts written ended =
     ((is_of_no_text ended ≡ true) × (written ≡ []))
     ⊎ ((ended ≡ write_failed) × (lint : Lint) × (later : List ℕ) × IsLintOf table_text delta_texts lint
@@ -50,8 +52,8 @@ LintRan names table_text delta_texts written (Ok at_fault) = WritesLint names ta
 LintRan names table_text delta_texts written (Err ended) = LintStops names table_text delta_texts written ended
 
 -- the theorem of a lint: whatever the sink took before, what was written and what was answered are as stated for these texts
-abbrev pub LintRuns : (names : List (List ℕ)) → (table_text : List ℕ) → (delta_texts : List (List ℕ)) → (taken taken_after : Option (List ℕ))
-    → Result Bool RunFault → Type 0
+abbrev pub LintRuns : (names : List (List ℕ)) → (table_text : List ℕ) → (delta_texts : List (List ℕ))
+    → (taken taken_after : Option (List ℕ)) → Result Bool RunFault → Type 0
 LintRuns names table_text delta_texts taken taken_after r =
     (before : List ℕ) → taken ≡ Some before
     → (written : List ℕ) × (taken_after ≡ Some (before ++ written)) × LintRan names table_text delta_texts written r

@@ -3,27 +3,23 @@
 //! A survey finds it too, as one of many; there it has what it is about, and in a block its own line. Where a survey hasn't found it, it
 //! is told as the batch answers it.
 
-ghost use Rattle.std.specs.Prelude.{◌≡◌, ◌<◌, length, IfOk, IfSome};
+ghost use Rattle.std.specs.Prelude.{◌≡◌, ◌<◌, length, IfSome, OnOk};
 ghost use Rattle.coll_lint.specs.Lints.{BeginsWith};
 
 use coll_bench::RunFault;
 use coll_surveys::{About, FoundFault};
 use std::alloc::AllocError;
 
-/// The faults of a survey with the one that a batch answers first.
-pub(crate) fn with_first(
-    first: RunFault,
-    found: Vec<FoundFault>,
-) -> Result<Vec<FoundFault>, AllocError>
-    ensures { IfOk result (λ faults. BeginsWith first faults.items) }
+/// Puts the fault that a batch answers before those of a survey, from which it is taken out where it is among them.
+pub(crate) fn put_first(first: RunFault, faults: &mut Vec<FoundFault>) -> Result<(), AllocError>
+    ensures { OnOk result (BeginsWith first faults.new.items) }
 {
-    let mut faults = found;
     let told = match place_of(&first, faults.as_slice()) {
         Some(place) => told_as(first, faults.remove(place)),
         None => told_alone(first),
     };
     faults.insert(0, told)?;
-    Ok(faults)
+    Ok(())
 }
 
 // Where the first of these faults stands that has the input, the line and the number of another.

@@ -9,16 +9,16 @@ ghost use Rattle.coll_bench.specs.Serving.{write_failed as failed_write};
 ghost use Rattle.coll_lint.specs.LintLines.{lint_text};
 ghost use Rattle.coll_lint.specs.Lints.{BeginsWith, JudgesTexts, LintRuns, LintsTexts, is_at_fault, is_of_no_text as of_no_text};
 
-use crate::first_faults::with_first;
+use crate::first_faults::put_first;
 use crate::kept_texts::no_memory;
 use crate::lint_lines::write_lint;
 use crate::lints::Lint;
-use crate::surveyed::{Told, told_of, with_marks};
+use crate::surveyed::told_of;
 use coll_bench::{Fault, RunFault, read_inputs};
 use coll_devices::{Counted, Sink, WriteStop};
 use coll_lex::ListBuf;
 use coll_lookups::HashKeys;
-use coll_surveys::{survey_delta, survey_table};
+use coll_surveys::{Surveyed, Told, survey_delta, survey_table};
 use coll_table::load_keyed;
 use std::alloc::{AllocError, Global};
 
@@ -168,10 +168,16 @@ fn lint_accepted(
 ) -> Result<Lint, AllocError>
     ensures { IfOk result (λ lint. lint.faults ≡ []) }
 {
-    let told = match delta {
-        Some(delta) => survey_over(alloc, keys, table, delta)?,
-        None => survey_alone(alloc, keys, table)?,
-    };
+    match survey(alloc, keys, table, delta) {
+        Ok(told) => Ok(accepted(alloc, told)),
+        Err(error) => Err(error),
+    }
+}
+
+// What is told of texts that a batch accepts, by their survey.
+fn accepted(alloc: Global, told: Told) -> Lint
+    ensures { result.faults ≡ [] }
+{
     let Told {
         faults,
         more_faults: _,
@@ -179,13 +185,12 @@ fn lint_accepted(
         more_warnings,
     } = told;
     drop(faults);
-    let warnings = with_marks(alloc, table, delta, warnings)?;
-    Ok(Lint {
+    Lint {
         faults: ListBuf::new(Vec::new(alloc)),
         more_faults: None,
         warnings: ListBuf::new(warnings),
         more_warnings,
-    })
+    }
 }
 
 // What is told of texts in which a batch answers this fault first. Where it is one of the table, the delta file isn't looked at.
@@ -198,62 +203,61 @@ fn lint_refused(
 ) -> Result<Lint, AllocError>
     ensures { IfOk result (λ lint. BeginsWith first lint.faults) }
 {
-    match delta {
-        Some(delta) if first.input != 0 => {
-            let told = survey_over(alloc, keys, table, delta)?;
-            lint_of(alloc, first, table, Some(delta), told)
-        }
-        _ => {
-            let told = survey_alone(alloc, keys, table)?;
-            lint_of(alloc, first, table, None, told)
-        }
+    let looked_at = if first.input == 0 { None } else { delta };
+    match survey(alloc, keys, table, looked_at) {
+        Ok(told) => refused(first, told),
+        Err(error) => Err(error),
     }
 }
 
 // What is told of texts by their survey, and by the fault that a batch answers first.
-fn lint_of(
-    alloc: Global,
-    first: RunFault,
-    table: &[u8],
-    delta: Option<&[u8]>,
-    told: Told,
-) -> Result<Lint, AllocError>
+fn refused(first: RunFault, told: Told) -> Result<Lint, AllocError>
     ensures { IfOk result (λ lint. BeginsWith first lint.faults) }
 {
     let Told {
-        faults,
+        mut faults,
         more_faults,
         warnings,
         more_warnings,
     } = told;
-    let faults = with_first(first, faults)?;
-    let warnings = with_marks(alloc, table, delta, warnings)?;
-    Ok(Lint {
-        faults: ListBuf::new(faults),
-        more_faults,
-        warnings: ListBuf::new(warnings),
-        more_warnings,
-    })
+    match put_first(first, &mut faults) {
+        Ok(()) => Ok(Lint {
+            faults: ListBuf::new(faults),
+            more_faults,
+            warnings: ListBuf::new(warnings),
+            more_warnings,
+        }),
+        Err(error) => {
+            drop(faults);
+            drop(warnings);
+            Err(error)
+        }
+    }
 }
 
-// What a survey of a table tells.
-fn survey_alone(alloc: Global, keys: HashKeys, table: &[u8]) -> Result<Told, AllocError> {
-    let surveyed = survey_table(alloc, keys, table)?;
-    told_of(alloc, surveyed)
+// What a survey of a table tells, or of a delta file over it.
+fn survey(
+    alloc: Global,
+    keys: HashKeys,
+    table: &[u8],
+    delta: Option<&[u8]>,
+) -> Result<Told, AllocError> {
+    let surveyed = match delta {
+        Some(delta) => survey_over(alloc, keys, table, delta)?,
+        None => survey_table(alloc, keys, table)?,
+    };
+    told_of(alloc, surveyed, table, delta)
 }
 
-// What a survey of a delta file tells, over a table that a batch accepts.
+// What a survey of a delta file gives, over a table that a batch accepts.
 fn survey_over(
     alloc: Global,
     keys: HashKeys,
     table: &[u8],
     delta: &[u8],
-) -> Result<Told, AllocError> {
+) -> Result<Surveyed, AllocError> {
     match load_keyed(alloc, keys, &mut Counted::new(table)) {
-        Ok(table) => {
-            let surveyed = survey_delta(alloc, keys, table, delta)?;
-            told_of(alloc, surveyed)
-        }
+        Ok(table) => survey_delta(alloc, keys, table, delta),
         Err(_) => Err(AllocError),
     }
 }

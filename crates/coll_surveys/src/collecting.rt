@@ -18,87 +18,136 @@ const NOT_DECLARED: u8 = 34;
 
 const WEIGHT_NOT_PLACED: u8 = 38;
 
-/// The faults and the warnings of one input.
+/// What is told of one input.
 #[derive(Drop)]
-pub struct Collected {
-    /// Which input it is.
-    pub input: usize,
-    /// The faults that are told, in the order in which they were found.
+pub struct Told {
+    /// The faults, in the order in which they were found.
     pub faults: Vec<FoundFault>,
-    /// Whether there are more.
-    pub more_faults: bool,
-    /// The warnings that are told, in the order in which they were found.
+    /// The input, if there are more faults than are told.
+    pub more_faults: Option<usize>,
+    /// The warnings, in the order in which they were found.
     pub warnings: Vec<WarnedLine>,
-    /// Whether there are more.
-    pub more_warnings: bool,
-    /// What was told as not declared.
-    pub undeclared: IdSet,
-    /// What was told as named by a weight, and not placed.
-    pub unplaced: IdSet,
+    /// The input, if there are more warnings than are told.
+    pub more_warnings: Option<usize>,
 }
 
 /// What a survey gives: what is told, and the table that the lines without fault give, where they give one.
 #[derive(Drop)]
 pub struct Surveyed {
     /// What is told.
-    pub told: Collected,
+    pub told: Told,
     /// The table.
     pub table: Option<Table>,
 }
 
+impl Surveyed {
+    /// What is told, without the table.
+    pub fn into_told(self) -> Told {
+        let Surveyed { told, table } = self;
+        drop(table);
+        told
+    }
+
+    /// The same, unless memory was refused to the survey.
+    pub(crate) fn if_done(self, done: Result<(), AllocError>) -> Result<Surveyed, AllocError> {
+        match done {
+            Ok(()) => Ok(self),
+            Err(error) => {
+                drop(self);
+                Err(error)
+            }
+        }
+    }
+}
+
+/// The faults and the warnings of one input, as they are gathered. It isn't dropped, but ends with what is told.
+pub(crate) struct Collected {
+    // Which input it is.
+    input: usize,
+    // What is told.
+    told: Told,
+    // What was told as not declared.
+    undeclared: IdSet,
+    // What was told as named by a weight, and not placed.
+    unplaced: IdSet,
+}
+
 impl Collected {
     /// Nothing told of an input yet.
-    pub(crate) fn new(alloc: Global, keys: HashKeys, input: usize) -> Collected {
+    pub fn new(alloc: Global, keys: HashKeys, input: usize) -> Collected {
         Collected {
             input,
-            faults: Vec::new(alloc),
-            more_faults: false,
-            warnings: Vec::new(alloc),
-            more_warnings: false,
+            told: Told {
+                faults: Vec::new(alloc),
+                more_faults: None,
+                warnings: Vec::new(alloc),
+                more_warnings: None,
+            },
             undeclared: IdSet::new(alloc, keys),
             unplaced: IdSet::new(alloc, keys),
         }
     }
 
+    /// What is told.
+    pub fn into_told(self) -> Told {
+        let Collected {
+            input: _,
+            told,
+            undeclared,
+            unplaced,
+        } = self;
+        drop(undeclared);
+        drop(unplaced);
+        told
+    }
+
     /// Tells a fault of a line, which a batch would answer at the line where its statement begins.
-    pub(crate) fn tell(
+    pub fn tell(
         &mut self,
         begins: u32,
         line: u32,
         fault: Fault,
         about: About,
     ) -> Result<(), AllocError> {
-        if !self.is_new(fault.number(), &about)? {
-            drop(about);
-            return Ok(());
+        match self.is_new(fault.number(), &about) {
+            Ok(true) => {
+                let fault = RunFault {
+                    input: self.input,
+                    line: begins,
+                    fault,
+                };
+                self.push(FoundFault::new(fault, line, about))
+            }
+            Ok(false) => {
+                drop(about);
+                Ok(())
+            }
+            Err(error) => {
+                drop(about);
+                Err(error)
+            }
         }
-        let fault = RunFault {
-            input: self.input,
-            line: begins,
-            fault,
-        };
-        self.push(FoundFault::new(fault, line, about))
     }
 
     // Puts a fault behind those that are told, where there is room for one more.
     fn push(&mut self, found: FoundFault) -> Result<(), AllocError> {
-        if self.faults.len() >= MOST_TOLD {
-            self.more_faults = true;
+        if self.told.faults.len() >= MOST_TOLD {
+            self.told.more_faults = Some(self.input);
             drop(found);
             return Ok(());
         }
-        self.faults.push(found)?;
+        self.told.faults.push(found)?;
         Ok(())
     }
 
     /// Tells a warning at a line.
-    pub(crate) fn warn(&mut self, line: u32, warning: Warning) -> Result<(), AllocError> {
-        if self.warnings.len() >= MOST_TOLD {
-            self.more_warnings = true;
+    pub fn warn(&mut self, line: u32, warning: Warning) -> Result<(), AllocError> {
+        if self.told.warnings.len() >= MOST_TOLD {
+            self.told.more_warnings = Some(self.input);
             drop(warning);
             return Ok(());
         }
-        self.warnings.push(WarnedLine {
+        self.told.warnings.push(WarnedLine {
             input: self.input,
             line,
             warning,

@@ -4,12 +4,10 @@
 //! and a block with faults without the lines at fault, so that what comes behind is judged by as much as possible. A line of the wrong
 //! kind in a block is told, and taken as outside of one.
 
-ghost use Rattle.coll_syntax.specs.Proper.{IsProper};
-
 use crate::collecting::{Collected, Surveyed};
 use crate::findings::{About, Warning};
 use crate::line_surveys::{Opening, TakesLines, survey_lines};
-use crate::open_blocks::{EndedBlock, OpenBlock, line_of, mended};
+use crate::open_blocks::{EndedBlock, OpenBlock, line_of};
 use crate::subjects::{about_given, refused_subject};
 use crate::unchanged::changed_nothing;
 use crate::unplaced::Declarations;
@@ -23,7 +21,6 @@ use coll_table::{Refusal, Table};
 use std::alloc::{AllocError, Global};
 
 // A delta file that is surveyed.
-#[derive(Drop)]
 struct DeltaSurvey {
     alloc: Global,
     table: Table,
@@ -47,39 +44,39 @@ pub fn survey_delta(
         declarations: Declarations::new(alloc, keys),
         block: None,
     };
-    survey.take_all(text)?;
-    survey.end()
+    let taken = survey.take_all(text);
+    survey.end().if_done(taken)
 }
 
 impl DeltaSurvey {
-    // Takes all lines of a text, and tells how it ends where its category doesn't. A block that is open there is judged before.
+    // Takes all lines of a text, tells how it ends where its category doesn't, and warns of what is never placed. A block that is open
+    // at an end like that is judged before.
     fn take_all(&mut self, text: &[u8]) -> Result<(), AllocError> {
         let alloc = self.alloc;
-        match survey_lines(alloc, text, self)? {
-            Some(end) => {
-                self.end_block()?;
-                let fault = DeltaFault::from(end);
-                self.tell(fault.line, Fault::from(fault), About::Nothing)
-            }
-            None => Ok(()),
+        if let Some(end) = survey_lines(alloc, text, self)? {
+            self.end_block()?;
+            let fault = DeltaFault::from(end);
+            self.tell(fault.line, Fault::from(fault), About::Nothing)?;
         }
+        self.declarations
+            .warn_of_unplaced(&self.table, &mut self.told)
     }
 
-    // Ends a survey of which all lines were taken.
-    fn end(self) -> Result<Surveyed, AllocError> {
+    // What a survey gives.
+    fn end(self) -> Surveyed {
         let DeltaSurvey {
+            alloc: _,
             table,
-            mut told,
+            told,
             declarations,
             block,
-            ..
         } = self;
+        drop(declarations);
         drop(block);
-        declarations.warn_of_unplaced(&table, &mut told)?;
-        Ok(Surveyed {
-            told,
+        Surveyed {
+            told: told.into_told(),
             table: Some(table),
-        })
+        }
     }
 
     // Tells a fault of a line.
@@ -101,35 +98,39 @@ impl DeltaSurvey {
         }
     }
 
-    // Takes a line that the grammar accepts, and answers whether it ends the category.
-    fn take_read(&mut self, number: u32, line: DeltaLine) -> Result<bool, AllocError> {
+    // Takes a line that the grammar accepts.
+    fn take_read(&mut self, number: u32, line: DeltaLine) -> Result<(), AllocError> {
         match line {
-            DeltaLine::Symbol(name) => {
-                let copy = name.try_copy()?;
-                self.take_declaration(number, copy, &Statement::Symbol(name))?
-            }
+            DeltaLine::Symbol(name) => self.take_alone(number, Statement::Symbol(name)),
             DeltaLine::Element { name, text } => {
-                let copy = name.try_copy()?;
-                self.take_declaration(number, copy, &Statement::Element { name, text })?
+                self.take_alone(number, Statement::Element { name, text })
             }
             DeltaLine::Equivalence { name, symbol } => {
-                self.take_alone(number, Statement::Equivalence { name, symbol })?
+                self.take_alone(number, Statement::Equivalence { name, symbol })
             }
-            DeltaLine::Script => self.take_idle(number, Some(Warning::ScriptWithoutEffect))?,
-            DeltaLine::Category => self.take_idle(number, None)?,
-            DeltaLine::Copy => self.take_idle(number, Some(Warning::CopyWithoutEffect))?,
-            DeltaLine::EndCategory => {
-                self.end_category(number)?;
-                return Ok(true);
-            }
-            DeltaLine::ReorderAfter(target) => self.open_block(number, Some(target))?,
-            DeltaLine::ReorderEnd => self.take_end(number)?,
             DeltaLine::SectionAfter { moved, after } => {
-                self.take_alone(number, Statement::SectionAfter { moved, after })?
+                self.take_alone(number, Statement::SectionAfter { moved, after })
             }
-            DeltaLine::Order(order) => self.take_order(number, order)?,
+            DeltaLine::ReorderAfter(target) => self.open_block(number, Some(target)),
+            DeltaLine::Order(order) => self.take_order(number, order),
+            bare => {
+                let taken = self.take_bare(number, &bare);
+                drop(bare);
+                taken
+            }
         }
-        Ok(false)
+    }
+
+    // Takes a line that is a keyword alone, or of which the rest has no effect.
+    fn take_bare(&mut self, number: u32, line: &DeltaLine) -> Result<(), AllocError> {
+        match line {
+            DeltaLine::Script => self.take_idle(number, Some(Warning::ScriptWithoutEffect)),
+            DeltaLine::Copy => self.take_idle(number, Some(Warning::CopyWithoutEffect)),
+            DeltaLine::Category => self.take_idle(number, None),
+            DeltaLine::EndCategory => self.end_category(number),
+            DeltaLine::ReorderEnd => self.take_end(number),
+            _ => Ok(()),
+        }
     }
 
     // Tells a line that no block takes, where one is open.
@@ -178,60 +179,57 @@ impl DeltaSurvey {
 
     // Takes a statement that is a line of its own.
     fn take_alone(&mut self, number: u32, statement: Statement) -> Result<(), AllocError> {
+        let taken = self.judge_alone(number, &statement);
+        drop(statement);
+        taken
+    }
+
+    // Judges a statement that is a line of its own, and notes what it declares where the table takes it.
+    fn judge_alone(&mut self, number: u32, statement: &Statement) -> Result<(), AllocError> {
         self.tell_open(number)?;
-        let _ = self.judge(number, &statement)?;
+        if self.judge(number, statement)? {
+            return self.note(number, statement);
+        }
         Ok(())
     }
 
-    // Takes the declaration of a symbol or an element with this name, and notes it where the table takes it.
-    fn take_declaration(
-        &mut self,
-        number: u32,
-        name: TextBuf,
-        statement: &Statement,
-    ) -> Result<(), AllocError> {
-        self.tell_open(number)?;
-        if self.judge(number, statement)? {
-            return self.declarations.declare(number, name);
-        }
-        drop(name);
-        Ok(())
+    // Notes the name of a symbol or an element that a statement declares.
+    fn note(&mut self, number: u32, statement: &Statement) -> Result<(), AllocError> {
+        let name = match statement {
+            Statement::Symbol(name) => name,
+            Statement::Element { name, .. } => name,
+            _ => return Ok(()),
+        };
+        let name = name.try_copy()?;
+        self.declarations.declare(number, name)
     }
 
     // Takes an order line, in a block or outside of one.
     fn take_order(&mut self, number: u32, order: OrderLine) -> Result<(), AllocError> {
-        self.mention(&order.id)?;
-        match self.block.take() {
-            Some(block) => self.take_order_inside(block, number, order),
-            None => {
-                let _ = self.judge(number, &Statement::Reweight(order))?;
-                Ok(())
+        match self.mention(&order.id) {
+            Ok(()) => self.put_order(number, order),
+            Err(error) => {
+                drop(order);
+                Err(error)
             }
         }
     }
 
-    // Takes an order line in a block that was taken out, and puts the block back.
-    fn take_order_inside(
-        &mut self,
-        mut block: OpenBlock,
-        number: u32,
-        order: OrderLine,
-    ) -> Result<(), AllocError> {
-        if !block.is_full() {
-            block.push(number, order)?;
-        } else {
-            drop(order);
-            if !block.overfull {
+    // Puts an order line into the block that is open, and tells the first one that is too many; where none is, it is judged.
+    fn put_order(&mut self, number: u32, order: OrderLine) -> Result<(), AllocError> {
+        match &mut self.block {
+            Some(block) if !block.is_full() => block.push(number, order),
+            Some(block) => {
+                drop(order);
+                if block.overfull {
+                    return Ok(());
+                }
                 block.overfull = true;
-                self.tell(
-                    number,
-                    Fault::Syntax(SyntaxFault::BlockTooLong),
-                    About::Nothing,
-                )?;
+                let fault = Fault::Syntax(SyntaxFault::BlockTooLong);
+                self.tell(number, fault, About::Nothing)
             }
+            None => self.take_alone(number, Statement::Reweight(order)),
         }
-        drop(self.block.replace(block));
-        Ok(())
     }
 
     // Notes the identifier of an order line, by its own name.
@@ -251,37 +249,48 @@ impl DeltaSurvey {
     // Ends the block that is open, if one is, and judges it.
     fn end_block(&mut self) -> Result<(), AllocError> {
         match self.block.take() {
-            Some(block) => match block.end() {
-                Some(ended) => self.judge_block(ended),
-                None => Ok(()),
-            },
+            Some(block) => self.judge_ended(block.end()),
+            None => Ok(()),
+        }
+    }
+
+    // Judges a block that has ended, where its first line wasn't refused.
+    fn judge_ended(&mut self, ended: Option<EndedBlock>) -> Result<(), AllocError> {
+        match ended {
+            Some(mut block) => {
+                let judged = self.judge_block(&mut block);
+                drop(block);
+                judged
+            }
             None => Ok(()),
         }
     }
 
     // Judges a block, and puts it to the table, without the lines that are at fault.
-    fn judge_block(&mut self, ended: EndedBlock) -> Result<(), AllocError> {
-        let EndedBlock {
-            begins,
-            statement,
-            numbers,
-            spoiled,
-        } = ended;
-        if !statement.is_proper() {
-            drop(statement);
-            drop(numbers);
+    fn judge_block(&mut self, block: &mut EndedBlock) -> Result<(), AllocError> {
+        if !block.statement.is_proper() {
             return Ok(());
         }
-        let found = faults_of(self.alloc, &self.table, &statement)?;
+        let found = faults_of(self.alloc, &self.table, &block.statement)?;
         if found.is_empty() {
-            return self.put(begins, &statement, spoiled);
+            drop(found);
+            return self.put(block.begins, &block.statement, block.spoiled);
         }
-        let mended = mended(self.alloc, statement, found.as_slice())?;
-        self.tell_found(begins, numbers.as_slice(), found)?;
-        match mended {
-            Some(statement) => self.put_mended(&statement),
-            None => Ok(()),
+        self.judge_at_fault(block, found)
+    }
+
+    // Tells the faults of a block, and puts what is left of it to the table.
+    fn judge_at_fault(
+        &mut self,
+        block: &mut EndedBlock,
+        found: Vec<Found>,
+    ) -> Result<(), AllocError> {
+        let left = block.mend(self.alloc, found.as_slice());
+        self.tell_found(block.begins, block.numbers.as_slice(), found)?;
+        if left {
+            return self.put_mended(&block.statement);
         }
+        Ok(())
     }
 
     // Judges a statement that is no block, and puts it to the table where it has no fault. The answer is whether it has none.
@@ -356,7 +365,11 @@ impl DeltaSurvey {
 impl TakesLines for DeltaSurvey {
     fn take(&mut self, line: &Line, opening: Opening) -> Result<bool, AllocError> {
         match parse_delta_line(self.alloc, line) {
-            Ok(read) => self.take_read(line.number, read),
+            Ok(read) => {
+                let ends = ends_category(&read);
+                self.take_read(line.number, read)?;
+                Ok(ends)
+            }
             Err(SyntaxFault::OutOfMemory) => Err(AllocError),
             Err(fault) => {
                 let about = refused_subject(self.alloc, line, fault)?;
@@ -371,4 +384,9 @@ impl TakesLines for DeltaSurvey {
         self.tell(number, Fault::Lex(fault), About::Nothing)?;
         self.pass_over(number, opening)
     }
+}
+
+// Whether a line ends the category.
+fn ends_category(line: &DeltaLine) -> bool {
+    matches!(line, DeltaLine::EndCategory)
 }

@@ -23,7 +23,7 @@ mod table_weights;
 mod unchanged;
 mod unplaced;
 
-pub use collecting::{Collected, Surveyed};
+pub use collecting::{Surveyed, Told};
 pub use delta_surveys::survey_delta;
 pub use findings::{About, FoundFault, WarnedLine, Warning};
 pub use foreign_words::ForeignWord;

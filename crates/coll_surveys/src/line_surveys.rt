@@ -30,13 +30,24 @@ pub(crate) trait TakesLines {
 }
 
 // Where the lines of a text stand.
-#[derive(Drop)]
 struct Lines {
     lexer: Lexer,
     // Whether the category has begun.
     begun: bool,
     // What the logical line that is open begins with, where one is.
     opening: Opening,
+}
+
+// Written out, so that each place that drops it is one call.
+impl Drop for Lines {
+    fn drop(self) {
+        let Lines {
+            lexer,
+            begun: _,
+            opening: _,
+        } = self;
+        drop(lexer);
+    }
 }
 
 /// Hands on the lines of a text. Where its category doesn't end, the answer is how the text ends.
@@ -50,28 +61,9 @@ pub(crate) fn survey_lines<T: TakesLines>(
         begun: false,
         opening: Opening::Other,
     };
-    let ended = hand_on_all(text, &mut lines, taker)?;
-    if ended {
-        return Ok(None);
-    }
-    Ok(Some(lines.lexer.early_end(lines.begun)))
-}
-
-// Hands on the lines of a text, and answers whether its category ended.
-fn hand_on_all<T: TakesLines>(
-    text: &[u8],
-    lines: &mut Lines,
-    taker: &mut T,
-) -> Result<bool, AllocError> {
-    if text.is_empty() {
-        return Ok(false);
-    }
-    for line in without_last_feed(text).split(is_line_feed) {
-        if lines.hand_on(line, taker)? {
-            return Ok(true);
-        }
-    }
-    Ok(false)
+    let end = lines.hand_on_all(text, taker);
+    drop(lines);
+    end
 }
 
 // A text without the line feed at its end, which ends its last line and begins no other.
@@ -88,6 +80,22 @@ fn is_line_feed(byte: &u8) -> bool {
 }
 
 impl Lines {
+    // Hands on the lines of a text. Where its category doesn't end, the answer is how the text ends.
+    fn hand_on_all<T: TakesLines>(
+        &mut self,
+        text: &[u8],
+        taker: &mut T,
+    ) -> Result<Option<EarlyEnd>, AllocError> {
+        if !text.is_empty() {
+            for line in without_last_feed(text).split(is_line_feed) {
+                if self.hand_on(line, taker)? {
+                    return Ok(None);
+                }
+            }
+        }
+        Ok(Some(self.lexer.early_end(self.begun)))
+    }
+
     // Hands on a physical line, and answers whether it ends the category.
     fn hand_on<T: TakesLines>(&mut self, line: &[u8], taker: &mut T) -> Result<bool, AllocError> {
         if self.begun {

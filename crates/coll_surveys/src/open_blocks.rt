@@ -7,7 +7,6 @@ use coll_table::Refusal;
 use std::alloc::{AllocError, Global};
 
 /// A block that is open.
-#[derive(Drop)]
 pub(crate) struct OpenBlock {
     // The number of its first line.
     begins: u32,
@@ -22,8 +21,24 @@ pub(crate) struct OpenBlock {
     pub spoiled: bool,
 }
 
+// Written out, so that each place that drops a block is one call.
+impl Drop for OpenBlock {
+    fn drop(self) {
+        let OpenBlock {
+            begins: _,
+            target,
+            lines,
+            numbers,
+            overfull: _,
+            spoiled: _,
+        } = self;
+        drop(target);
+        drop(lines);
+        drop(numbers);
+    }
+}
+
 /// A block that has ended: its statement, and the numbers of its lines.
-#[derive(Drop)]
 pub(crate) struct EndedBlock {
     /// The number of its first line.
     pub begins: u32,
@@ -33,6 +48,20 @@ pub(crate) struct EndedBlock {
     pub numbers: Vec<u32>,
     /// Whether it had a line that was refused.
     pub spoiled: bool,
+}
+
+// Written out, as that of a block that is open.
+impl Drop for EndedBlock {
+    fn drop(self) {
+        let EndedBlock {
+            begins: _,
+            statement,
+            numbers,
+            spoiled: _,
+        } = self;
+        drop(statement);
+        drop(numbers);
+    }
 }
 
 impl OpenBlock {
@@ -89,6 +118,20 @@ impl OpenBlock {
     }
 }
 
+impl EndedBlock {
+    /// Takes out what was found to be at fault, and answers whether something is left: of a block with a good target the lines without
+    /// fault, and those of which the weights alone are at fault, without these.
+    pub fn mend(&mut self, alloc: Global, found: &[Found]) -> bool {
+        match &mut self.statement {
+            Statement::Block { target: _, lines } if !is_whole_at_fault(found) => {
+                mend_lines(alloc, lines, found);
+                true
+            }
+            _ => false,
+        }
+    }
+}
+
 /// The number of the line at which a fault of a statement stands that begins at a line.
 pub(crate) fn line_of(begins: u32, numbers: &[u32], found: &Found) -> u32 {
     match found.line {
@@ -97,28 +140,6 @@ pub(crate) fn line_of(begins: u32, numbers: &[u32], found: &Found) -> u32 {
             None => begins,
         },
         None => begins,
-    }
-}
-
-/// A statement without what was found to be at fault, if something is left: of a block with a good target the lines without fault, and
-/// those of which the weights alone are at fault, without these.
-pub(crate) fn mended(
-    alloc: Global,
-    statement: Statement,
-    found: &[Found],
-) -> Result<Option<Statement>, AllocError> {
-    match statement {
-        Statement::Block { target, lines } if !is_whole_at_fault(found) => {
-            let lines = mended_lines(alloc, lines.into_items(), found)?;
-            Ok(Some(Statement::Block {
-                target,
-                lines: ListBuf::new(lines),
-            }))
-        }
-        other => {
-            drop(other);
-            Ok(None)
-        }
     }
 }
 
@@ -132,40 +153,30 @@ fn is_of_no_line(found: &Found) -> bool {
     found.line.is_none()
 }
 
-// The lines without fault, and those without their weights of which these are at fault. The faults are in the order of the lines.
-fn mended_lines(
-    alloc: Global,
-    lines: Vec<OrderLine>,
-    found: &[Found],
-) -> Result<Vec<OrderLine>, AllocError> {
-    let mut kept = Vec::with_capacity(alloc, lines.len())?;
-    let mut left = found;
-    for (place, line) in lines.into_iter().enumerate() {
-        match left.split_first() {
-            Some((fault, later)) if fault.line == Some(place) => {
-                keep_mended(&mut kept, line, fault)?;
-                left = later;
-            }
-            _ => kept.push(line)?,
-        }
+// Leaves the lines without fault, and those without their weights of which these are at fault. It begins with the last fault, so that
+// the lines at fault before stay where they are.
+fn mend_lines(alloc: Global, lines: &mut ListBuf<OrderLine>, found: &[Found]) {
+    let given = std::mem::replace(lines, ListBuf::new(Vec::new(alloc)));
+    let mut left = given.into_items();
+    for fault in found.iter().rev() {
+        mend_line(&mut left, fault);
     }
-    Ok(kept)
+    drop(std::mem::replace(lines, ListBuf::new(left)));
 }
 
-// Keeps a line at fault, without its weights, where these alone are at fault.
-fn keep_mended(
-    kept: &mut Vec<OrderLine>,
-    line: OrderLine,
-    fault: &Found,
-) -> Result<(), AllocError> {
-    let OrderLine { id, weights } = line;
-    drop(weights);
-    if are_weights_at_fault(&id, fault) {
-        kept.push(OrderLine { id, weights: None })?;
-    } else {
-        drop(id);
+// Takes a line at fault out of others, or its weights alone, where these are at fault.
+fn mend_line(lines: &mut Vec<OrderLine>, fault: &Found) {
+    let Some(place) = fault.line else {
+        return;
+    };
+    if place >= lines.len() {
+        return;
     }
-    Ok(())
+    if are_weights_at_fault(&lines[place].id, fault) {
+        drop(lines[place].weights.take());
+    } else {
+        drop(lines.remove(place));
+    }
 }
 
 // Whether the weights alone are at fault of a line with this identifier.

@@ -25,7 +25,6 @@ use coll_texts::{LoadCause, LoadFault, TableBuilder};
 use std::alloc::{AllocError, Global};
 
 // A table that is surveyed.
-#[derive(Drop)]
 struct TableSurvey {
     alloc: Global,
     builder: TableBuilder,
@@ -37,19 +36,76 @@ struct TableSurvey {
     opened: bool,
 }
 
+// What was read of a table, beside what its lines give.
+struct ReadTable {
+    alloc: Global,
+    told: Collected,
+    declarations: Declarations,
+    ruled: bool,
+}
+
 /// Surveys a table, which is input 0.
 pub fn survey_table(alloc: Global, keys: HashKeys, text: &[u8]) -> Result<Surveyed, AllocError> {
-    let builder = TableBuilder::new(alloc, keys)?;
     let mut survey = TableSurvey {
         alloc,
-        builder,
+        builder: TableBuilder::new(alloc, keys)?,
         told: Collected::new(alloc, keys, 0),
         declarations: Declarations::new(alloc, keys),
         ruled: false,
         opened: false,
     };
-    survey.take_all(text)?;
-    survey.end(text)
+    let taken = survey.take_all(text);
+    let (builder, read) = survey.into_parts();
+    match taken {
+        Ok(()) => read.end(builder, text),
+        Err(error) => {
+            drop(builder);
+            drop(read.over(None));
+            Err(error)
+        }
+    }
+}
+
+impl ReadTable {
+    // Ends a survey of which all lines were taken: the weights of the lines are looked up in the table that they give.
+    fn end(mut self, builder: TableBuilder, text: &[u8]) -> Result<Surveyed, AllocError> {
+        match ended_table(builder) {
+            Ok(table) => {
+                let looked = self.look_up(text, &table);
+                self.over(table).if_done(looked)
+            }
+            Err(error) => {
+                drop(self.over(None));
+                Err(error)
+            }
+        }
+    }
+
+    // Looks the weights of the lines up in the table that they give, if they give one, and warns of what is never placed.
+    fn look_up(&mut self, text: &[u8], table: &Option<Table>) -> Result<(), AllocError> {
+        match table {
+            Some(table) => {
+                survey_weights(self.alloc, text, table, self.ruled, &mut self.told)?;
+                self.declarations.warn_of_unplaced(table, &mut self.told)
+            }
+            None => Ok(()),
+        }
+    }
+
+    // What is told, and a table.
+    fn over(self, table: Option<Table>) -> Surveyed {
+        let ReadTable {
+            alloc: _,
+            told,
+            declarations,
+            ruled: _,
+        } = self;
+        drop(declarations);
+        Surveyed {
+            told: told.into_told(),
+            table,
+        }
+    }
 }
 
 impl TableSurvey {
@@ -62,27 +118,25 @@ impl TableSurvey {
         }
     }
 
-    // Ends a survey of which all lines were taken: the weights of the lines are looked up in the table that they give.
-    fn end(self, text: &[u8]) -> Result<Surveyed, AllocError> {
+    // The builder, and what was read beside it.
+    fn into_parts(self) -> (TableBuilder, ReadTable) {
         let TableSurvey {
             alloc,
             builder,
             told,
             declarations,
             ruled,
-            ..
+            opened: _,
         } = self;
-        match ended_table(builder)? {
-            Some(table) => {
-                let mut told = survey_weights(alloc, text, &table, ruled, told)?;
-                declarations.warn_of_unplaced(&table, &mut told)?;
-                Ok(Surveyed {
-                    told,
-                    table: Some(table),
-                })
-            }
-            None => Ok(Surveyed { told, table: None }),
-        }
+        (
+            builder,
+            ReadTable {
+                alloc,
+                told,
+                declarations,
+                ruled,
+            },
+        )
     }
 
     // Tells a fault of the table.
@@ -96,15 +150,42 @@ impl TableSurvey {
         requires tokens { AreTokens line.now.tokens }
         requires proper { IsProperTableLine read }
     {
-        if let TableLine::Script = &read {
-            self.told.warn(line.number, Warning::ScriptWithoutEffect)?;
-        }
-        let name = declared_name(&read)?;
         let starts = begins_order(&read);
-        if starts || ends_category(&read) {
+        match self.prepare(line.number, &read) {
+            Ok(name) => {
+                let taken = self.builder.take(line.number, without_weights(read));
+                self.judge_taken(line, starts, name, taken)
+            }
+            Err(error) => {
+                drop(read);
+                Err(error)
+            }
+        }
+    }
+
+    // Prepares to put a line to the builder, and answers the name that it declares.
+    fn prepare(&mut self, number: u32, read: &TableLine) -> Result<Option<TextBuf>, AllocError> {
+        if let TableLine::Script = read {
+            self.told.warn(number, Warning::ScriptWithoutEffect)?;
+        }
+        if begins_order(read) || ends_category(read) {
             self.close_opened();
         }
-        match self.builder.take(line.number, without_weights(read)) {
+        declared_name(read)
+    }
+
+    // Judges what the builder answered to a line, which may open an order, and may declare a name. The answer is whether the line ends
+    // the category.
+    fn judge_taken(
+        &mut self,
+        line: &Line,
+        starts: bool,
+        name: Option<TextBuf>,
+        taken: Result<bool, LoadFault>,
+    ) -> Result<bool, AllocError>
+        requires { AreTokens line.now.tokens }
+    {
+        match taken {
             Ok(ended) => {
                 self.ruled = self.ruled || starts;
                 self.note(line.number, name)?;
@@ -133,23 +214,42 @@ impl TableSurvey {
             return Err(AllocError);
         }
         match parse_table_line(self.alloc, line) {
-            Ok(read) => {
-                let about = table_subject(&read, fault.cause)?;
-                self.tell_load(fault, about)?;
-                if is_for_an_order(&read) {
-                    return self.take_opened(line, fault.cause, read);
-                }
-                Ok(ends_category(&read))
-            }
+            Ok(read) => self.refuse_again(line.number, fault, read),
             Err(_) => Err(AllocError),
         }
+    }
+
+    // Tells a line that the builder refuses, and takes what it says nevertheless.
+    fn refuse_again(
+        &mut self,
+        number: u32,
+        fault: LoadFault,
+        read: TableLine,
+    ) -> Result<bool, AllocError>
+        requires { IsProperTableLine read }
+    {
+        match self.tell_refused(fault, &read) {
+            Ok(()) if is_for_an_order(&read) => self.take_opened(number, fault.cause, read),
+            told => {
+                let ends = ends_category(&read);
+                drop(read);
+                told?;
+                Ok(ends)
+            }
+        }
+    }
+
+    // Tells a line that the builder refuses.
+    fn tell_refused(&mut self, fault: LoadFault, read: &TableLine) -> Result<(), AllocError> {
+        let about = table_subject(read, fault.cause)?;
+        self.tell_load(fault, about)
     }
 
     // Opens an order for a line that was refused, so that those behind it aren't refused for want of one, and puts a line to it that was
     // refused for that alone.
     fn take_opened(
         &mut self,
-        line: &Line,
+        number: u32,
         cause: LoadCause,
         read: TableLine,
     ) -> Result<bool, AllocError>
@@ -158,23 +258,53 @@ impl TableSurvey {
         self.open();
         if let LoadCause::OutsideOrder = cause {
             self.opened = true;
-            let about = table_subject(&read, LoadCause::NotDeclared)?;
-            return match self.builder.take(line.number, without_weights(read)) {
-                Ok(ended) => Ok(ended),
-                Err(
-                    LoadFault {
-                        cause: LoadCause::OutOfMemory,
-                        ..
-                    },
-                ) => Err(AllocError),
-                Err(fault) => {
-                    self.tell_load(fault, about)?;
-                    Ok(false)
-                }
-            };
+            return self.take_outside(number, read);
         }
         drop(read);
         Ok(false)
+    }
+
+    // Puts a line that stood outside of an order to the one that was opened for it.
+    fn take_outside(&mut self, number: u32, read: TableLine) -> Result<bool, AllocError>
+        requires { IsProperTableLine read }
+    {
+        match table_subject(&read, LoadCause::NotDeclared) {
+            Ok(about) => {
+                let taken = self.builder.take(number, without_weights(read));
+                self.tell_taken(about, taken)
+            }
+            Err(error) => {
+                drop(read);
+                Err(error)
+            }
+        }
+    }
+
+    // Tells what the builder answered to a line about this, if it refused it. The answer is whether the line ends the category.
+    fn tell_taken(
+        &mut self,
+        about: About,
+        taken: Result<bool, LoadFault>,
+    ) -> Result<bool, AllocError> {
+        match taken {
+            Ok(ended) => {
+                drop(about);
+                Ok(ended)
+            }
+            Err(
+                LoadFault {
+                    cause: LoadCause::OutOfMemory,
+                    ..
+                },
+            ) => {
+                drop(about);
+                Err(AllocError)
+            }
+            Err(fault) => {
+                self.tell_load(fault, about)?;
+                Ok(false)
+            }
+        }
     }
 
     // Closes an order that was opened for a line outside of one, so that it isn't told once more where the next one opens, or the

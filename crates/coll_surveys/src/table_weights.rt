@@ -4,11 +4,10 @@
 //! weight names what isn't declared or has no entry.
 
 use crate::collecting::Collected;
-use crate::findings::About;
 use crate::line_surveys::{Opening, TakesLines, survey_lines};
 use crate::subjects::about_id;
 use coll_bench::Fault;
-use coll_lex::{LexFault, Line, ListBuf, TextBuf};
+use coll_lex::{LexFault, Line, TextBuf};
 use coll_syntax::{Id, OrderLine, SyntaxFault, TableLine, Weight, parse_table_line};
 use coll_table::Table;
 use coll_texts::{LoadCause, LoadFault};
@@ -16,12 +15,12 @@ use std::alloc::{AllocError, Global};
 
 // The weights of a table that are surveyed.
 #[derive(Drop)]
-struct WeightSurvey<'a> {
+struct WeightSurvey<'a, 'b> {
     alloc: Global,
     table: &'a Table,
     // Whether the rules of the table are known, and so how many weights a line may have.
     ruled: bool,
-    told: Collected,
+    told: &'b mut Collected,
 }
 
 /// Surveys the weights in the text of a table that gives this one, and tells their faults behind those that were told.
@@ -30,8 +29,8 @@ pub(crate) fn survey_weights(
     text: &[u8],
     table: &Table,
     ruled: bool,
-    told: Collected,
-) -> Result<Collected, AllocError> {
+    told: &mut Collected,
+) -> Result<(), AllocError> {
     let mut survey = WeightSurvey {
         alloc,
         table,
@@ -39,19 +38,17 @@ pub(crate) fn survey_weights(
         told,
     };
     let _ = survey_lines(alloc, text, &mut survey)?;
-    let WeightSurvey { told, .. } = survey;
-    Ok(told)
+    Ok(())
 }
 
-impl TakesLines for WeightSurvey<'_> {
+impl TakesLines for WeightSurvey<'_, '_> {
     fn take(&mut self, line: &Line, _opening: Opening) -> Result<bool, AllocError> {
         match parse_table_line(self.alloc, line) {
-            Ok(TableLine::Order(order)) => {
-                self.judge(line.number, order)?;
-                Ok(false)
+            Ok(read) => {
+                let ends = self.take_read(line.number, &read);
+                drop(read);
+                ends
             }
-            Ok(TableLine::EndCategory) => Ok(true),
-            Ok(_) => Ok(false),
             Err(SyntaxFault::OutOfMemory) => Err(AllocError),
             Err(_) => Ok(false),
         }
@@ -68,25 +65,36 @@ impl TakesLines for WeightSurvey<'_> {
     }
 }
 
-impl WeightSurvey<'_> {
+impl WeightSurvey<'_, '_> {
+    // Takes a line that the grammar accepts, and answers whether it ends the category.
+    fn take_read(&mut self, number: u32, read: &TableLine) -> Result<bool, AllocError> {
+        match read {
+            TableLine::Order(order) => {
+                self.judge(number, order)?;
+                Ok(false)
+            }
+            TableLine::EndCategory => Ok(true),
+            _ => Ok(false),
+        }
+    }
+
     // Judges the weights of an order line, if it gives any.
-    fn judge(&mut self, number: u32, order: OrderLine) -> Result<(), AllocError> {
-        let OrderLine { id, weights } = order;
-        let Some(weights) = weights else {
+    fn judge(&mut self, number: u32, order: &OrderLine) -> Result<(), AllocError> {
+        let Some(weights) = &order.weights else {
             return Ok(());
         };
-        if is_symbol(self.table, &id) {
-            return self.tell(number, LoadCause::SymbolWithWeights, id);
+        if is_symbol(self.table, &order.id) {
+            return self.tell(number, LoadCause::SymbolWithWeights, &order.id);
         }
         if self.ruled && weights.get().len() > self.table.rules().len() {
-            return self.tell(number, LoadCause::TooManyWeights, id);
+            return self.tell(number, LoadCause::TooManyWeights, &order.id);
         }
-        self.judge_weights(number, weights)
+        self.judge_weights(number, weights.get())
     }
 
     // Judges what each of these weights names.
-    fn judge_weights(&mut self, number: u32, weights: ListBuf<Weight>) -> Result<(), AllocError> {
-        for weight in weights.get() {
+    fn judge_weights(&mut self, number: u32, weights: &[Weight]) -> Result<(), AllocError> {
+        for weight in weights {
             if let Weight::Names(ids) = weight {
                 self.judge_ids(number, ids.get())?;
             }
@@ -98,7 +106,6 @@ impl WeightSurvey<'_> {
     fn judge_ids(&mut self, number: u32, ids: &[Id]) -> Result<(), AllocError> {
         for id in ids {
             if let Some(cause) = id_cause(self.alloc, self.table, id)? {
-                let id = id.clone()?;
                 self.tell(number, cause, id)?;
             }
         }
@@ -106,8 +113,9 @@ impl WeightSurvey<'_> {
     }
 
     // Tells a fault of an order line.
-    fn tell(&mut self, line: u32, cause: LoadCause, id: Id) -> Result<(), AllocError> {
+    fn tell(&mut self, line: u32, cause: LoadCause, id: &Id) -> Result<(), AllocError> {
         let fault = Fault::Load(LoadFault { line, cause });
+        let id = id.clone()?;
         self.told.tell(line, line, fault, about_id(id))
     }
 }

@@ -8,11 +8,11 @@ use coll_syntax::Id;
 use coll_table::Table;
 use std::alloc::{AllocError, Global};
 
-/// A declaration: the number of its line, and its name.
+// A declaration: the number of its line, and the name as an identifier.
 #[derive(Drop)]
-pub(crate) struct DeclaredAt {
-    pub line: u32,
-    pub name: TextBuf,
+struct DeclaredAt {
+    line: u32,
+    id: Id,
 }
 
 /// What was declared, and what stood on order lines.
@@ -35,7 +35,10 @@ impl Declarations {
 
     /// Notes a name that a line declares.
     pub fn declare(&mut self, line: u32, name: TextBuf) -> Result<(), AllocError> {
-        self.declared.push(DeclaredAt { line, name })?;
+        self.declared.push(DeclaredAt {
+            line,
+            id: Id::Named(name),
+        })?;
         Ok(())
     }
 
@@ -45,30 +48,18 @@ impl Declarations {
     }
 
     /// Warns of the names that were declared and that neither have an entry nor stood on an order line.
-    pub fn warn_of_unplaced(self, table: &Table, told: &mut Collected) -> Result<(), AllocError> {
-        let Declarations {
-            declared,
-            mentioned,
-        } = self;
-        warn_of_each(declared, &mentioned, table, told)?;
+    pub fn warn_of_unplaced(&self, table: &Table, told: &mut Collected) -> Result<(), AllocError> {
+        for declared in self.declared.as_slice() {
+            if self.is_unplaced(table, &declared.id) {
+                let id = declared.id.clone()?;
+                told.warn(declared.line, Warning::NeverPlaced(id))?;
+            }
+        }
         Ok(())
     }
-}
 
-// Warns of those names that have no entry and stood on no order line.
-fn warn_of_each(
-    declared: Vec<DeclaredAt>,
-    mentioned: &IdSet,
-    table: &Table,
-    told: &mut Collected,
-) -> Result<(), AllocError> {
-    for DeclaredAt { line, name } in declared {
-        let id = Id::Named(name);
-        if table.entry(&id).is_none() && !mentioned.contains(&id) {
-            told.warn(line, Warning::NeverPlaced(id))?;
-        } else {
-            drop(id);
-        }
+    // Whether an identifier has no entry, and stood on no order line.
+    fn is_unplaced(&self, table: &Table, id: &Id) -> bool {
+        table.entry(id).is_none() && !self.mentioned.contains(id)
     }
-    Ok(())
 }
