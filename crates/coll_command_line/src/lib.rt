@@ -5,12 +5,12 @@
 //! - `subcommands`: the subcommands that work on a table or make one, and their names (`Tasks`);
 //! - `tasks`: what each of them does, by the texts given to it (`Tasks`);
 //! - `help`: what help says behind the words that may stand there;
-//! - `arguments`: the words that each takes;
-//! - `requests`: words are read, and come to a task and to names of files.
+//! - `arguments`: the words that each takes, and so what may stand on a command line (`CommandLine`);
+//! - `requests`: words are read, and come to a task and to names of files (`Reading`).
 //!
-//! A new subcommand is a variant of `Subcommand` with its name, a case of `about`, of `taking`, of `task_of` and of `task_for`, a place
-//! in `SUBCOMMANDS` and an example in `EXAMPLES`; `version` alone takes no table, and is no variant. There is one level of subcommands,
-//! and no option but help.
+//! A new subcommand is a variant of `Subcommand` with its name, a case of `about`, of `taking` and `words_of`, of `task_of` and
+//! `task_for`, a place in `SUBCOMMANDS` and in `subcommands`, and an example in `EXAMPLES`; `version` alone takes no table, and is no
+//! variant. There is one level of subcommands, and no option but help.
 #![tactic(auto)]
 
 mod arguments;

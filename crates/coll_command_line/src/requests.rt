@@ -1,6 +1,9 @@
 //! The words of a command line are read, and come to a task and to the names of files; or to help, to the version, or to a fault.
 
-ghost use Rattle.std.specs.Prelude.{◌<◌, vec_len, IfOk, IfSome};
+ghost use Rattle.std.specs.Prelude.{◌≡◌, ◌<◌, Bool, true, Option, map, string_bytes, vec_len, IfOk, IfErr, IfSome};
+ghost use Rattle.clap.specs.Words.{Text, app_of, kind_of, subcommand_name_of, takes};
+ghost use Rattle.coll_command_line.specs.CommandLine.{command_line};
+ghost use Rattle.coll_command_line.specs.Reading.{Asks, Says, named_by};
 
 use crate::arguments::{
     DELTA, FIRST, NAME, OTHER, SECOND, SOURCE, TABLE, TEXT, VERSION, WORDS, command,
@@ -32,28 +35,15 @@ pub enum Unasked {
     OutOfMemory,
 }
 
-impl From<AllocError> for Unasked {
-    fn from(_error: AllocError) -> Unasked {
-        Unasked::OutOfMemory
-    }
-}
-
-impl From<clap::Error> for Unasked {
-    fn from(error: clap::Error) -> Unasked {
-        match error.kind() {
-            ErrorKind::OutOfMemory => Unasked::OutOfMemory,
-            _ => Unasked::Told(error),
-        }
-    }
-}
-
 /// Reads the words of a command line, of which the first is the program's name.
 pub fn read_words<'a>(alloc: Global, words: &'a [String]) -> Result<Request<'a>, Unasked>
-    ensures { IfOk result (λ request. 0 < vec_len request.files) }
+    ensures task { IfOk result (λ request. Asks (named_by (map string_bytes words.now)) request.task) }
+    ensures files { IfOk result (λ request. 0 < vec_len request.files) }
+    ensures unasked { IfErr result (Says (takes command_line (map string_bytes words.now)) (named_by (map string_bytes words.now))) }
 {
     match command(alloc) {
         Ok(mut command) => read_by(alloc, &mut command, words),
-        Err(refused) => Err(Unasked::from(refused)),
+        Err(_) => Err(Unasked::OutOfMemory),
     }
 }
 
@@ -63,11 +53,26 @@ fn read_by<'a>(
     command: &mut Command<'a>,
     words: &'a [String],
 ) -> Result<Request<'a>, Unasked>
-    ensures { IfOk result (λ request. 0 < vec_len request.files) }
+    ensures task { app_of command.old ≡ command_line
+        → IfOk result (λ request. Asks (named_by (map string_bytes words.now)) request.task) }
+    ensures files { IfOk result (λ request. 0 < vec_len request.files) }
+    ensures unasked { app_of command.old ≡ command_line
+        → IfErr result (Says (takes command_line (map string_bytes words.now)) (named_by (map string_bytes words.now))) }
 {
     match command.try_get_matches_from_mut(words) {
         Ok(matches) => asked_for(alloc, command, &matches),
-        Err(error) => Err(Unasked::from(error)),
+        Err(error) => Err(refused(error)),
+    }
+}
+
+// What words come to that were refused.
+fn refused(error: clap::Error) -> Unasked
+    ensures { (passes : Bool) (name : Option Text) → (passes ≡ true → kind_of error ≡ ErrorKind.OutOfMemory) → Says passes name result }
+{
+    if error.kind() == ErrorKind::OutOfMemory {
+        Unasked::OutOfMemory
+    } else {
+        Unasked::Told(error)
     }
 }
 
@@ -77,25 +82,35 @@ fn asked_for<'a>(
     command: &mut Command<'a>,
     matches: &ArgMatches<'a>,
 ) -> Result<Request<'a>, Unasked>
-    ensures { IfOk result (λ request. 0 < vec_len request.files) }
+    ensures task { IfOk result (λ request. Asks (subcommand_name_of matches.now) request.task) }
+    ensures files { IfOk result (λ request. 0 < vec_len request.files) }
+    ensures unasked { IfErr result (Says true (subcommand_name_of matches.now)) }
 {
-    match request_of(alloc, matches)? {
-        Some(request) => Ok(request),
-        None => Err(no_request(command, matches)?),
+    match request_of(alloc, matches) {
+        Ok(Some(request)) => Ok(request),
+        Ok(None) => Err(no_request(command, matches)),
+        Err(_) => Err(Unasked::OutOfMemory),
     }
 }
 
 // What words come to that ask for no work on a table.
-fn no_request<'a>(
-    command: &mut Command<'a>,
-    matches: &ArgMatches<'a>,
-) -> Result<Unasked, AllocError> {
+fn no_request<'a>(command: &mut Command<'a>, matches: &ArgMatches<'a>) -> Unasked
+    ensures { Says true (subcommand_name_of matches.now) result }
+{
     match matches.subcommand() {
-        Some((VERSION, _)) => Ok(Unasked::Version),
-        _ => Ok(Unasked::Told(command.error(
-            ErrorKind::MissingSubcommand,
-            "a subcommand and its words are wanted",
-        )?)),
+        Some((VERSION, _)) => Unasked::Version,
+        _ => no_subcommand(command),
+    }
+}
+
+// What is told where no subcommand is named.
+fn no_subcommand<'a>(command: &mut Command<'a>) -> Unasked
+    ensures { (name : Option Text) → Says true name result }
+{
+    let text = "a subcommand and its words are wanted";
+    match command.error(ErrorKind::MissingSubcommand, text) {
+        Ok(error) => Unasked::Told(error),
+        Err(_) => Unasked::OutOfMemory,
     }
 }
 
@@ -104,7 +119,8 @@ fn request_of<'a>(
     alloc: Global,
     matches: &ArgMatches<'a>,
 ) -> Result<Option<Request<'a>>, AllocError>
-    ensures { IfOk result (λ asked. IfSome asked (λ request. 0 < vec_len request.files)) }
+    ensures task { IfOk result (λ asked. IfSome asked (λ request. Asks (subcommand_name_of matches.now) request.task)) }
+    ensures files { IfOk result (λ asked. IfSome asked (λ request. 0 < vec_len request.files)) }
 {
     let Some((name, found)) = matches.subcommand() else {
         return Ok(None);
@@ -124,7 +140,8 @@ fn request_on<'a>(
     named: Result<Vec<&'a str>, AllocError>,
 ) -> Result<Option<Request<'a>>, AllocError>
     requires { IfOk named (λ files. 0 < vec_len files) }
-    ensures { IfOk result (λ asked. IfSome asked (λ request. 0 < vec_len request.files)) }
+    ensures task { IfOk result (λ asked. IfSome asked (λ request. request.task ≡ task)) }
+    ensures files { IfOk result (λ asked. IfSome asked (λ request. 0 < vec_len request.files)) }
 {
     match named {
         Ok(files) => Ok(Some(Request { task, files })),

@@ -5,7 +5,7 @@ ghost use Rattle.coll_command_line.specs.Tasks.{subcommand_name};
 ghost use Rattle.coll_command_line.specs.declared.subcommands.Subcommand.{Subcommand};
 
 /// The subcommands that work on a table or make one, in the order in which help tells them.
-pub(crate) const SUBCOMMANDS: [Subcommand; 15] = [
+pub(crate) const SUBCOMMANDS: &[Subcommand] = &[
     Subcommand::Check,
     Subcommand::Print,
     Subcommand::Export,

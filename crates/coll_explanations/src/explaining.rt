@@ -14,7 +14,8 @@ ghost use Rattle.coll_key.specs.TextOrder.{order_of};
 ghost use Rattle.coll_bench.specs.BatchOutcome.{fault_in, is_any_too_long};
 ghost use Rattle.coll_bench.specs.Serving.{CountsWrites, ReadsNone, write_failed};
 ghost use Rattle.coll_explanations.specs.Explaining.{Explains, WritesWhole, starved};
-ghost use Rattle.coll_explanations.specs.ExplanationLaws.{FirstDifferencesAreTold, OrdersAreOfLevels, ToldLevelsDecide, ToldNumbersAreListed};
+ghost use Rattle.coll_explanations.specs.ExplanationLaws.{FirstDifferencesAreTold, OrdersAreOfLevels};
+ghost use Rattle.coll_explanations.specs.ExplanationLaws.{ToldLevelsDecide, ToldNumbersAreListed};
 ghost use Rattle.coll_explanations.specs.Explanations.{apart_at, explanation, explanation_of, level_lines};
 ghost use Rattle.coll_explanations.specs.ToldSteps.{apart_of, id_of};
 

@@ -86,18 +86,22 @@ module _ (table : Collation) where
 -- Taken apart.
 
 -- a word of a list goes to those that stay
-pub one_stays : (all list kept moved : List ListedWord) (listed : ListedWord) → IsPermutation all ((list ++ listed ∷ []) ++ (kept ++ moved)) → IsPermutation all (list ++ ((kept ++ listed ∷ []) ++ moved))
+pub one_stays : (all list kept moved : List ListedWord) (listed : ListedWord) → IsPermutation all ((list ++ listed ∷ []) ++ (kept ++ moved))
+    → IsPermutation all (list ++ ((kept ++ listed ∷ []) ++ moved))
 one_stays all list kept moved listed same =
     IsPermutation-trans _ _ _ same
     (subst (λ (l : List ListedWord). IsPermutation l (list ++ ((kept ++ listed ∷ []) ++ moved))) (sym (append_assoc list (listed ∷ []) (kept ++ moved)))
-    (IsPermutation-append_right list _ _ (subst (IsPermutation (listed ∷ (kept ++ moved))) (sym (append_assoc kept (listed ∷ []) moved)) (IsPermutation-sym _ _ (IsPermutation-middle kept listed moved)))))
+    (IsPermutation-append_right list _ _ (subst (IsPermutation (listed ∷ (kept ++ moved))) (sym (append_assoc kept (listed ∷ []) moved))
+    (IsPermutation-sym _ _ (IsPermutation-middle kept listed moved)))))
 
 -- or to those that move
-pub one_moves : (all list kept moved : List ListedWord) (listed : ListedWord) → IsPermutation all ((list ++ listed ∷ []) ++ (kept ++ moved)) → IsPermutation all (list ++ (kept ++ (moved ++ listed ∷ [])))
+pub one_moves : (all list kept moved : List ListedWord) (listed : ListedWord) → IsPermutation all ((list ++ listed ∷ []) ++ (kept ++ moved))
+    → IsPermutation all (list ++ (kept ++ (moved ++ listed ∷ [])))
 one_moves all list kept moved listed same =
     IsPermutation-trans _ _ _ same
     (subst (λ (l : List ListedWord). IsPermutation l (list ++ (kept ++ (moved ++ listed ∷ [])))) (sym (append_assoc list (listed ∷ []) (kept ++ moved)))
-    (IsPermutation-append_right list _ _ (subst (IsPermutation (listed ∷ (kept ++ moved))) (append_assoc kept moved (listed ∷ [])) (IsPermutation-sym _ _ (IsPermutation-to_front (kept ++ moved) listed)))))
+    (IsPermutation-append_right list _ _ (subst (IsPermutation (listed ∷ (kept ++ moved))) (append_assoc kept moved (listed ∷ []))
+    (IsPermutation-sym _ _ (IsPermutation-to_front (kept ++ moved) listed)))))
 
 pub reversed_with : (list : List ListedWord) (listed : ListedWord) → reverse (list ++ listed ∷ []) ≡ listed ∷ reverse list
 reversed_with list listed = reverse-append list (listed ∷ [])
@@ -141,7 +145,8 @@ same_last list front left listed other is other_is =
     first_or none (first ∷ others) = first
 
 -- the last word of a list is the first from its end
-pub last_first : (table : Collation) (listed behind : ListedWord) (list front : List ListedWord) → list ≡ front ++ behind ∷ [] → before table behind listed ≡ false → MayStandBefore table listed (reverse list)
+pub last_first : (table : Collation) (listed behind : ListedWord) (list front : List ListedWord) → list ≡ front ++ behind ∷ []
+    → before table behind listed ≡ false → MayStandBefore table listed (reverse list)
 last_first table listed behind list front is apart = subst (MayStandBefore table listed) (sym (ap reverse is ∙ reversed_with front behind)) apart
 
 -- Put together.
@@ -180,7 +185,8 @@ pub record TogetherSoFar (table : Collation) (kept moved put kept_now moved_now 
   pub kept_ordered : Ascends table (put ++ reverse kept_now)
   pub moved_ordered : Ascends table (put ++ reverse moved_now)
 
-pub none_together : (table : Collation) (kept moved put : List ListedWord) → put ≡ [] → StandInOrder table (reverse kept) → StandInOrder table (reverse moved) → TogetherSoFar table kept moved put kept moved
+pub none_together : (table : Collation) (kept moved put : List ListedWord) → put ≡ [] → StandInOrder table (reverse kept)
+    → StandInOrder table (reverse moved) → TogetherSoFar table kept moved put kept moved
 none_together table kept moved put none ordered moved_ordered = subst (λ (p : List ListedWord). TogetherSoFar table kept moved p kept moved) (sym none) (record {
   same = IsPermutation-refl (kept ++ moved);
   kept_ordered = ascending table (reverse kept) ordered;
@@ -194,7 +200,8 @@ put_of put moved put_now moved_now others same =
     IsPermutation-trans _ _ _ (IsPermutation-append_right front _ _ (IsPermutation-append_right others _ _ (IsPermutation-reverse back)))
     (subst (λ (l : List ListedWord). IsPermutation l (others ++ (front ++ reverse back))) (append_assoc front others (reverse back))
     (subst (IsPermutation ((front ++ others) ++ reverse back)) (append_assoc others front (reverse back)) (IsPermutation-append_left (reverse back) _ _ (IsPermutation-append_comm front others)))) in
-    IsPermutation-trans _ _ _ (turned put moved) (subst (λ (l : List ListedWord). IsPermutation (others ++ l) (put_now ++ (others ++ moved_now))) same (IsPermutation-sym _ _ (turned put_now moved_now)))
+    IsPermutation-trans _ _ _ (turned put moved)
+    (subst (λ (l : List ListedWord). IsPermutation (others ++ l) (put_now ++ (others ++ moved_now))) same (IsPermutation-sym _ _ (turned put_now moved_now)))
 
 module _ (table : Collation) (kept moved put kept_now moved_now : List ListedWord) (so_far : TogetherSoFar table kept moved put kept_now moved_now)
     (left : List ListedWord) (next : ListedWord) (is : kept_now ≡ left ++ next ∷ []) (put_then moved_then : List ListedWord) (puts : PutsBefore table next put moved_now put_then moved_then) where

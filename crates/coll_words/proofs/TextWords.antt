@@ -72,7 +72,8 @@ word_of_line before line short few = no_fault (nat_lt most_line_bytes (length li
     not_last before few = ne_eqb before most_lines (λ same. omega arith)
 
     no_fault : (long last : Bool) → long ≡ false → last ≡ false
-        → unless_at_fault (suc before) (if long then Some lex.LineTooLong else (if last then Some lex.TooManyLines else None)) (word_at (suc before) (without_return line)) ≡ word_at (suc before) (without_return line)
+        → unless_at_fault (suc before) (if long then Some lex.LineTooLong else (if last then Some lex.TooManyLines else None)) (word_at (suc before) (without_return line))
+        ≡ word_at (suc before) (without_return line)
     no_fault false false long last = refl
     no_fault false true long last = absurd cc
     no_fault true last long other = absurd cc
@@ -88,7 +89,8 @@ line_long before line long =
 over_last : (line : List ℕ) → length line ≤ most_line_bytes → line_word most_lines line ≡ Err (fault_in 0 (suc most_lines) (fault.Lex lex.TooManyLines))
 unfolding line_word
 over_last line short =
-    ap (λ (b : Bool). unless_at_fault (suc most_lines) (if b then Some lex.LineTooLong else (if most_lines == most_lines then Some lex.TooManyLines else None)) (word_at (suc most_lines) (without_return line)))
+    ap (λ (b : Bool). unless_at_fault (suc most_lines) (if b then Some lex.LineTooLong else (if most_lines == most_lines then Some lex.TooManyLines else None))
+    (word_at (suc most_lines) (without_return line)))
     (le-ltb most_line_bytes (length line) short)
 
 module _ (before number : ℕ) (line text : List ℕ) (is : number ≡ before + 1) (short : length line ≤ most_line_bytes) where
@@ -259,7 +261,8 @@ module _ (table : Collation) where
         (goes_on start reader left (texts_of old) way after left_after failed failed_after takes.0 gives
         (ap (λ (n : ℕ). line_word n after.line) (length_texts old) ∙ ap (line_word (length old)) (sym same) ∙ takes.1))
 
-  module _ (words : List KeyedWord) (start : Option (List ℕ)) (reader after : ReaderState) (left left_after : Option (List ℕ)) (failed failed_after : ℕ) (way : OnWay start reader left (texts_of words)) where
+  module _ (words : List KeyedWord) (start : Option (List ℕ)) (reader after : ReaderState) (left left_after : Option (List ℕ)) (failed failed_after : ℕ)
+      (way : OnWay start reader left (texts_of words)) where
     -- a line that is refused
     pub word_refused : (line : List ℕ) (ended : RunFault) → GivesLine reader after left left_after failed failed_after → line ≡ after.line
         → FailsAs (ending_of ended) (line_word (length words) line) ended → ended.line ≡ length words + 1 → (text : List ℕ) → start ≡ Some text → WordsFail (ending_of ended) text left_after ended

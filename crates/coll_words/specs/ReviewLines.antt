@@ -1,5 +1,6 @@
 -- The lines that tell what a statement did to a file of words (the project's own).
-use Rattle.std.specs.Prelude.{ℕ, Bool, nat_lt, not, ◌==◌, ◌||◌, if◌then◌else◌, List, [], ◌∷◌, ◌++◌, length, take, codes, decimal, encode_utf8}
+use Rattle.std.specs.Prelude.{ℕ, Bool, nat_lt, not, ◌==◌, ◌||◌, if◌then◌else◌, List, [], ◌∷◌, ◌++◌, length, take}
+use Rattle.std.specs.Prelude.{codes, decimal, encode_utf8}
 use Rattle.std.specs.List.{flat_map}
 use Rattle.coll_lex.specs.Characters.{space, quotation_mark, slash, less_than, greater_than}
 use Rattle.coll_syntax.specs.declared.statements.Statement.{Statement}

@@ -20,7 +20,8 @@ pub moved-preserved-in_ok-push : goal.moved-preserved-in_ok-push
 moved-preserved-in_ok-push c =
     let moved_is = sym c.deref.ensures.value ∙ c.in-Some.ensures.cases.0 in
     let same = same_last c.moved.moved.items c.in-Some.field-0-1.now c.pop.new.self.items c.in-Some.first.now c.in-Some-pop.first moved_is c.in-Some-pop.ensures.items in
-    put_one (collation c.args.table.now) c.args.next.now c.args.list.now.items c.args.moved.now.items c.moved.list.items c.moved.moved.items c.moved.invariant (comes_once (collation c.args.table.now) c.lemma_well_formed.ensures.well_formed)
+    put_one (collation c.args.table.now) c.args.next.now c.args.list.now.items c.args.moved.now.items c.moved.list.items c.moved.moved.items c.moved.invariant
+    (comes_once (collation c.args.table.now) c.lemma_well_formed.ensures.well_formed)
     c.in-Some-pop.first c.pop.new.self.items c.push.new.self.items c.in-Some-pop.ensures.items c.in_ok-push.ensures.items
     (ap (λ first. is_lt (line_order (collation c.args.table.now) (numbered_of first) (numbered_of c.args.next.now))) (sym same) ∙ sym c.in_ok-comes_before.ensures ∙ c.if-not-branch.false)
 

@@ -18,7 +18,8 @@ kept-preserved c =
 pub returns-clause-same : goal.returns-clause-same
 returns-clause-same c =
     rest_of (λ (l : List ListedWord). IsPermutation (c.args.kept.now.items ++ c.args.moved.now.items) l) c.put_rest.result c.put_rest.new.list.items _ c.put_rest.ensures
-    (all_same (collation c.args.table.now) c.args.kept.now.items c.args.moved.now.items c.kept.list.items c.kept.kept.items c.kept.moved.items c.kept.invariant (nothing_left c.kept.kept.items (omega (arith, c.kept.kept.ok.0, c.in_default.ensures.cases.0))))
+    (all_same (collation c.args.table.now) c.args.kept.now.items c.args.moved.now.items c.kept.list.items c.kept.kept.items c.kept.moved.items c.kept.invariant
+    (nothing_left c.kept.kept.items (omega (arith, c.kept.kept.ok.0, c.in_default.ensures.cases.0))))
 
 pub returns-clause-ordered : goal.returns-clause-ordered
 returns-clause-ordered c =

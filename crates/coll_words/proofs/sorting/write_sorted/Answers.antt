@@ -10,5 +10,6 @@ pub returns-in-Ok-clause-run : goal.returns-in-Ok-clause-run
 returns-in-Ok-clause-run g c =
     let taken = g.W.Sink.taken in
     writes c.args.words.now.items (texts_of c.sort_by_keys.new.words.items) (taken c.args.output.now) (taken c.write_all.new.output) c.write_all.result c.in-Ok.ensures.sorted
-    (subst (λ (sorted : List KeyedWord). Sends (taken c.args.output.now) (taken c.write_all.new.output) (written_words (texts_of sorted)) c.write_all.result) c.deref.ensures.value c.write_all.ensures.sent)
+    (subst (λ (sorted : List KeyedWord). Sends (taken c.args.output.now) (taken c.write_all.new.output) (written_words (texts_of sorted)) c.write_all.result)
+    c.deref.ensures.value c.write_all.ensures.sent)
     c.write_all.ensures.fault
