@@ -6,15 +6,15 @@
 ghost use Rattle.std.specs.Prelude.{◌≡◌, ◌<◌, length, IfErr};
 
 use crate::files::{Input, at_no_line, open_all};
+use crate::read_first;
 use crate::reasons::{ReasonedOutput, reason_of, reasoned_output};
-use crate::{read_first, status, tell_fault};
+use crate::standard_input::ServesLines;
 use coll_bench::{Fault, RunFault};
 use coll_edit::{Editor, FileReason, OpensFiles, Watched, edit_lines};
 use coll_lex::{Counted, LexFault};
 use coll_table::HashKeys;
 use std::fs::File;
 use std::io::IsTerminal;
-use std::process::ExitCode;
 
 // The files of the system.
 #[derive(Drop)]
@@ -42,37 +42,19 @@ impl<'a> OpensFiles for SystemFiles<'a> {
     }
 }
 
-/// Edits the table in the first of these files, whose history begins with the statements of the others, and answers the exit status.
-/// `inputs` has the name of standard input.
-pub(crate) fn edit(
-    rt: &HostRuntime,
-    keys: HashKeys,
-    files: &[&str],
-    names: &[String],
-    inputs: &[String],
-) -> ExitCode
-    requires some { 0 < length files.now }
-    requires names { length names.now ≡ length files.now }
-    requires input { 0 < length inputs.now }
-{
-    match begin(rt, keys, files) {
-        Ok(mut editor) => {
-            let ran = edit_standard_input(rt, &mut editor);
-            drop(editor);
-            status(rt, ran, inputs)
+// An edit of the table in the first of some files, whose history begins with the statements of the others.
+impl ServesLines for Editor {
+    fn begin(rt: &HostRuntime, keys: HashKeys, files: &[&str]) -> Result<Editor, RunFault> {
+        match open_all(rt, files) {
+            Ok(mut inputs) => begin_opened(rt, keys, inputs.as_mut_slice()),
+            Err(fault) => Err(fault),
         }
-        Err(fault) => tell_fault(rt, &fault, names),
     }
-}
 
-// An edit of the table in the first of these files, behind the statements of the others.
-fn begin(rt: &HostRuntime, keys: HashKeys, files: &[&str]) -> Result<Editor, RunFault>
-    requires { 0 < length files.now }
-    ensures { IfErr result (λ fault. fault.input < length files.now) }
-{
-    match open_all(rt, files) {
-        Ok(mut inputs) => begin_opened(rt, keys, inputs.as_mut_slice()),
-        Err(fault) => Err(fault),
+    fn serve(mut self, rt: &HostRuntime) -> Result<(), RunFault> {
+        let ran = edit_standard_input(rt, &mut self);
+        drop(self);
+        ran
     }
 }
 

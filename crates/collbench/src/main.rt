@@ -1,10 +1,11 @@
 //! The program: a thin `main` over `coll_bench`, which runs batches and serves sessions.
 //!
 //! The words are read by `coll_command_line`; `random_keys` draws the keys that names are looked up under, `files` opens what the
-//! words name, `importing` makes tables and delta files of sources, `explaining` tells why texts compare as they do, `words` sorts
-//! lines, `reviews` tells what statements do to words, `editing` serves a person, `differences` compares two tables, and `linting`
-//! tells all that is wrong with one; `reasons` has why the system refuses a file. Here the runs are started, and their faults are
-//! told: a line on standard error, and the exit status, which stands also where that line can't be written.
+//! words name, `importing` makes tables and delta files of sources, `explaining` tells why texts compare as they do, `standard_input`
+//! is what serves lines, as `sessions`, `words`, which sorts them, and `editing`, which serves a person; `reviews` tells what
+//! statements do to words, `differences` compares two tables, and `linting` tells all that is wrong with one; `reasons` has why the
+//! system refuses a file. Here the runs are started, and their faults are told: a line on standard error, and the exit status, which
+//! stands also where that line can't be written.
 #![tactic(auto)]
 
 ghost use Rattle.std.specs.Prelude.{◌<◌, length, vec_len, IfOk, IfErr, ◌≡◌};
@@ -19,37 +20,38 @@ mod linting;
 mod random_keys;
 mod reasons;
 mod reviews;
+mod sessions;
+mod standard_input;
 mod words;
 
 use coll_bench::{
-    Batch, Fault, RunFault, exit_status, read_inputs, run_batch_keyed, run_session, write_fault,
+    Batch, Fault, RunFault, exit_status, read_inputs, run_batch_keyed, write_fault,
 };
 use coll_command_line::{Request, Task, Unasked, read_words};
+use coll_edit::Editor;
 use coll_import::write_symbols_behind;
 use coll_lex::{Counted, LexFault, ReadStop, Sink, TextBuf, WriteStop};
 use coll_table::{HashKeys, Table};
 use differences::{read_at, tell_differences};
-use editing::edit;
 use explaining::explain_texts;
 use files::{Input, at_no_line, open_all};
 use importing::{Wanted, import};
 use linting::lint_files;
 use random_keys::random_keys;
 use reviews::review;
+use sessions::SessionOver;
+use standard_input::serve_input;
 use std::alloc::{AllocError, Global};
 use std::env;
 use std::io::{BufWriter, ErrorKind, Stdout};
 use std::process::ExitCode;
-use words::sort;
+use words::SortBy;
 
 // The exit status where the words of the command line are wrong.
 const WRONG_WORDS: u8 = 2;
 
 // The version of the program, and the line of the kit that it is proved with, as `rt version` prints it.
 const VERSION: &str = "collbench 0.1.0\nproved with rattle-kit-13f logic dac8208d650f15bf";
-
-// The name of standard input.
-const STANDARD_INPUT: &str = "-";
 
 // What replies and the output of batches are written to.
 type Output = Counted<BufWriter<Stdout>>;
@@ -107,23 +109,14 @@ fn do_keyed(
     match task {
         Task::Batch(batch) => run(rt, keys, batch, files, names),
         Task::Explain(text, other) => explain_texts(rt, keys, files, names, &text, &other),
-        Task::Sort => match String::from_str(rt.alloc(), STANDARD_INPUT) {
-            Ok(name) => sort(rt, keys, files, names, &[name]),
-            Err(_) => tell_no_memory(rt),
-        },
+        Task::Sort => serve_input::<SortBy>(rt, keys, files, names),
         Task::Review => match review(rt, keys, files) {
             Ok(()) => ExitCode::SUCCESS,
             Err(fault) => tell_fault(rt, &fault, names),
         },
-        Task::Session => match String::from_str(rt.alloc(), STANDARD_INPUT) {
-            Ok(name) => serve(rt, keys, files, names, &[name]),
-            Err(_) => tell_no_memory(rt),
-        },
+        Task::Session => serve_input::<SessionOver>(rt, keys, files, names),
         Task::Lint => lint_files(rt, keys, files, names),
-        Task::Edit => match String::from_str(rt.alloc(), STANDARD_INPUT) {
-            Ok(name) => edit(rt, keys, files, names, &[name]),
-            Err(_) => tell_no_memory(rt),
-        },
+        Task::Edit => serve_input::<Editor>(rt, keys, files, names),
         Task::Differences => match tell_differences(rt, keys, files) {
             Ok(status) => status,
             Err(fault) => tell_fault(rt, &fault, names),
@@ -247,24 +240,6 @@ fn write_batch(
     }
 }
 
-// Serves a session over the table in the first of these files. `inputs` has the name of standard input.
-fn serve(
-    rt: &HostRuntime,
-    keys: HashKeys,
-    files: &[&str],
-    names: &[String],
-    inputs: &[String],
-) -> ExitCode
-    requires some { 0 < length files.now }
-    requires names { length names.now ≡ length files.now }
-    requires input { 0 < length inputs.now }
-{
-    match read_table(rt, keys, files) {
-        Ok(table) => status(rt, serve_standard_input(rt, table), inputs),
-        Err(fault) => tell_fault(rt, &fault, names),
-    }
-}
-
 // The table in the first of these files, rewritten by the others.
 fn read_table(rt: &HostRuntime, keys: HashKeys, files: &[&str]) -> Result<Table, RunFault>
     requires { 0 < length files.now }
@@ -291,24 +266,6 @@ fn read_first(rt: &HostRuntime, keys: HashKeys, inputs: &mut [Input]) -> Result<
     ensures { IfErr result (λ fault. fault.input ≡ 0) }
 {
     read_at(rt, keys, inputs, 0)
-}
-
-// Serves the lines of standard input.
-fn serve_standard_input(rt: &HostRuntime, table: Table) -> Result<(), RunFault>
-    ensures { IfErr result (λ fault. fault.input ≡ 0) }
-{
-    match standard_output(rt) {
-        Ok(mut output) => serve_lines(rt, table, &mut output),
-        Err(fault) => Err(fault),
-    }
-}
-
-// Serves the lines of standard input, and writes the replies to an output.
-fn serve_lines(rt: &HostRuntime, table: Table, output: &mut Output) -> Result<(), RunFault>
-    ensures { IfErr result (λ fault. fault.input ≡ 0) }
-{
-    let mut lines = Counted::new(rt.stdin());
-    run_session(rt.alloc(), table, &mut lines, output)
 }
 
 // Standard output, with a buffer. What a run wrote is flushed before its fault is told, each reply of a session by itself, and where

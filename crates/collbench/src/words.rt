@@ -3,33 +3,31 @@
 ghost use Rattle.std.specs.Prelude.{◌≡◌, ◌<◌, length, IfErr};
 
 use crate::files::at_no_line;
-use crate::{Output, read_table, standard_output, status, tell_fault};
+use crate::standard_input::ServesLines;
+use crate::{Output, read_table, standard_output};
 use coll_bench::{Fault, RunFault};
 use coll_lex::{Counted, Sink, WriteStop};
 use coll_table::{HashKeys, Table};
 use coll_words::sort_lines;
-use std::process::ExitCode;
 
-/// Sorts the lines of standard input by the table and the delta files with these names, to standard output, and answers the exit
-/// status. `inputs` has the name of standard input.
-pub(crate) fn sort(
-    rt: &HostRuntime,
-    keys: HashKeys,
-    files: &[&str],
-    names: &[String],
-    inputs: &[String],
-) -> ExitCode
-    requires some { 0 < length files.now }
-    requires names { length names.now ≡ length files.now }
-    requires input { 0 < length inputs.now }
-{
-    match read_table(rt, keys, files) {
-        Ok(table) => {
-            let sorted = sort_standard_input(rt, &table);
-            drop(table);
-            status(rt, sorted, inputs)
+/// A sort by the table in the first of some files, rewritten by the others.
+#[derive(Drop)]
+pub(crate) struct SortBy {
+    table: Table,
+}
+
+impl ServesLines for SortBy {
+    fn begin(rt: &HostRuntime, keys: HashKeys, files: &[&str]) -> Result<SortBy, RunFault> {
+        match read_table(rt, keys, files) {
+            Ok(table) => Ok(SortBy { table }),
+            Err(fault) => Err(fault),
         }
-        Err(fault) => tell_fault(rt, &fault, names),
+    }
+
+    fn serve(self, rt: &HostRuntime) -> Result<(), RunFault> {
+        let sorted = sort_standard_input(rt, &self.table);
+        drop(self);
+        sorted
     }
 }
 

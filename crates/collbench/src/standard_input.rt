@@ -1,0 +1,45 @@
+//! What serves the lines of standard input: a session, a sort, and an edit.
+//!
+//! All files are read first, and a fault of one is told by its name; a fault of the lines, or of what is written for them, is told by
+//! the name of standard input.
+
+ghost use Rattle.std.specs.Prelude.{◌≡◌, ◌<◌, length, IfErr};
+
+use crate::{status, tell_fault, tell_no_memory};
+use coll_bench::RunFault;
+use coll_table::HashKeys;
+use std::process::ExitCode;
+
+// The name of standard input.
+const STANDARD_INPUT: &str = "-";
+
+/// What serves the lines of standard input by the table in the first of some files.
+pub(crate) trait ServesLines: Drop {
+    /// Reads the files with these names.
+    fn begin(rt: &HostRuntime, keys: HashKeys, files: &[&str]) -> Result<Self, RunFault>
+        requires { 0 < length files.now }
+        ensures { IfErr result (λ fault. fault.input < length files.now) };
+
+    /// Serves the lines.
+    fn serve(self, rt: &HostRuntime) -> Result<(), RunFault>
+        ensures { IfErr result (λ fault. fault.input ≡ 0) };
+}
+
+/// Serves the lines of standard input by the files with these names, and answers the exit status.
+pub(crate) fn serve_input<S: ServesLines>(
+    rt: &HostRuntime,
+    keys: HashKeys,
+    files: &[&str],
+    names: &[String],
+) -> ExitCode
+    requires some { 0 < length files.now }
+    requires names { length names.now ≡ length files.now }
+{
+    match String::from_str(rt.alloc(), STANDARD_INPUT) {
+        Ok(name) => match S::begin(rt, keys, files) {
+            Ok(served) => status(rt, served.serve(rt), &[name]),
+            Err(fault) => tell_fault(rt, &fault, names),
+        },
+        Err(_) => tell_no_memory(rt),
+    }
+}
