@@ -4,7 +4,11 @@ pub mod asked;
 mod device_faults;
 pub mod runs;
 
+use crate::assertions::{assert_same, assert_text};
 use crate::devices::{SMALL, Script, ShortReader};
+use crate::statements::Lines;
+use crate::tables::examples::{BASE_TABLE, Change, push_lines};
+use asked::{Asked, assert_told};
 use coll_bench::{Batch, RunFault, exit_status, run_batch};
 use coll_lex::{Counted, Sink};
 use std::alloc::Global;
@@ -26,6 +30,27 @@ pub const NONE_FAILS: InputRead = InputRead {
     input: 0,
     script: SMALL,
 };
+
+/// What a batch writes.
+pub enum Output {
+    /// These lines.
+    Lines(Lines),
+    /// The lines of the base table with a change.
+    Base(Change),
+}
+
+impl Output {
+    /// The text that is written.
+    pub fn text(&self, rt: &impl Abort, alloc: Global) -> Vec<u8> {
+        let mut text = Vec::new(alloc);
+        let pushed = match self {
+            Output::Lines(lines) => push_lines(&mut text, lines),
+            Output::Base(change) => change.push(&mut text, BASE_TABLE),
+        };
+        pushed.expect(rt, "the output");
+        text
+    }
+}
 
 // A reader of an input.
 fn reader(text: &[u8], input: usize, read: InputRead) -> Counted<ShortReader<'_>> {
@@ -62,4 +87,36 @@ fn status(answer: &Result<(), RunFault>) -> u8 {
         Ok(()) => 0,
         Err(ended) => exit_status(&ended.fault),
     }
+}
+
+/// The inputs of a batch: the texts of a table and of delta files, and how they are read.
+#[derive(Clone, Copy)]
+pub struct Inputs<'a> {
+    pub table: &'a [u8],
+    pub deltas: &'a [&'a str],
+    pub read: InputRead,
+}
+
+// Asserts what a batch answers and writes: the status, the output, and the line that tells the fault, if there is one.
+fn assert_batch(
+    rt: &impl Abort,
+    alloc: Global,
+    asked: &Asked,
+    inputs: Inputs<'_>,
+    wanted: (u8, &[u8], &str),
+) {
+    let Inputs {
+        table,
+        deltas,
+        read,
+    } = inputs;
+    let (wanted_status, wanted_output, line) = wanted;
+    let mut output = Vec::new(alloc);
+    let mut taken = Counted::new(&mut output);
+    let batch = asked.batch(rt, alloc);
+    let answer = run(rt, alloc, batch, table, deltas, read, &mut taken);
+    drop(taken);
+    assert_same(rt, line, status(&answer), wanted_status);
+    assert_text(rt, alloc, output.as_slice(), wanted_output);
+    assert_told(rt, alloc, answer, line);
 }

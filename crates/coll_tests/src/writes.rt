@@ -208,7 +208,7 @@ fn wanted(rt: &impl Abort, alloc: Global, what: Written) -> Vec<u8> {
         }
         Written::Fault => lines(rt, alloc, &["B.txt:7: 10 LineTooLong"]),
         Written::Replies(session) => session.course(rt, alloc, usize::MAX).replies,
-        Written::Printed => lines(rt, alloc, PRINTED),
+        Written::Printed => PRINTED.text(rt, alloc),
         Written::Listing | Written::Compiled => lines(rt, alloc, BASE_LISTING),
     }
 }

@@ -1,13 +1,9 @@
 //! Whole batches over the base table, and what is written for them.
 
-use super::asked::{Asked, assert_told};
-use super::{C_BEHIND_A, NONE_FAILS, run, status};
-use crate::assertions::{assert_same, assert_text};
+use super::asked::Asked;
+use super::{C_BEHIND_A, Inputs, NONE_FAILS, Output, assert_batch};
 use crate::statements::Lines;
-use crate::tables::examples::{BASE_TABLE, text_of};
-use coll_lex::Counted;
-use std::alloc::Global;
-use std::process::Abort;
+use crate::tables::examples::{BASE_TABLE, Change, text_of};
 
 /// The base table, compiled.
 pub const BASE_LISTING: Lines = &[
@@ -27,20 +23,28 @@ pub const BASE_LISTING: Lines = &[
 ];
 
 // What a batch is asked for, its delta files, and what is written.
-const DONE: &[(Asked, &[&str], Lines)] = &[
-    (Asked::Compile, &[], BASE_LISTING),
+const DONE: &[(Asked, &[&str], Output)] = &[
+    (Asked::Compile, &[], Output::Lines(BASE_LISTING)),
     (Asked::Print, &[C_BEHIND_A], PRINTED),
     (
         Asked::Key(&[("ab", 1), ("", 1)]),
         &[],
-        &["4 6 | 1 1 | 2 2 | |", "| | | |"],
+        Output::Lines(&["4 6 | 1 1 | 2 2 | |", "| | | |"]),
     ),
-    (Asked::Key(&[("c", 1)]), &[C_BEHIND_A], &["5 | 1 | 2 | |"]),
-    (Asked::Compare(("a", 1), ("A", 1)), &[], &["less"]),
+    (
+        Asked::Key(&[("c", 1)]),
+        &[C_BEHIND_A],
+        Output::Lines(&["5 | 1 | 2 | |"]),
+    ),
+    (
+        Asked::Compare(("a", 1), ("A", 1)),
+        &[],
+        Output::Lines(&["less"]),
+    ),
     (
         Asked::Check,
         &[C_BEHIND_A, C_BEHIND_A],
-        &["table entries 9 declared 3 sections 2 levels 4"],
+        Output::Lines(&["table entries 9 declared 3 sections 2 levels 4"]),
     ),
     // Lines that get no reply in a session have no effect in a file either, and nothing is looked at behind the category.
     (
@@ -49,32 +53,20 @@ const DONE: &[(Asked, &[&str], Lines)] = &[
             "\u{FEFF}\nLC_COLLATE # now\nLC_COLLATE\ncopy \"iso14651_t1\"\nscript <Latn>\nreorder-after <U0061>\n# note\n<U0063>\n\
                 reorder-end\nEND LC_COLLATE\nbogus \\\n",
         ],
-        &["5 | 1 | 2 | |"],
+        Output::Lines(&["5 | 1 | 2 | |"]),
     ),
 ];
 
 /// The base table as the delta file makes it.
-pub const PRINTED: Lines = &[
-    "comment_char %",
-    "escape_char /",
-    "LC_COLLATE",
-    "collating-symbol <BASE>",
-    "collating-symbol <MIN>",
-    "collating-symbol <CAP>",
-    "order_start forward;backward;forward;forward,position",
-    "<BASE>",
-    "<MIN>",
-    "<CAP>",
-    "<U0061> <U0061>;<BASE>;<MIN>;IGNORE",
-    "<U0063> <U0063>;<BASE>;<MIN>;IGNORE",
-    "<U0041> <U0061>;<BASE>;<CAP>;IGNORE",
-    "<U0062> <U0062>;<BASE>;<MIN>;IGNORE",
-    "<U0064> <U0064>;<BASE>;<MIN>;IGNORE",
-    "section <PUNCT>",
-    "<U002D> IGNORE;IGNORE;IGNORE;<U002D>",
-    "order_end",
-    "END LC_COLLATE",
-];
+pub const PRINTED: Output = Output::Base(Change {
+    first: 12,
+    last: 14,
+    others: &[
+        "<U0063> <U0063>;<BASE>;<MIN>;IGNORE",
+        "<U0041> <U0061>;<BASE>;<CAP>;IGNORE",
+        "<U0062> <U0062>;<BASE>;<MIN>;IGNORE",
+    ],
+});
 
 // What a batch is asked for, its delta files, and the line that tells the fault.
 const REFUSED: &[(Asked, &[&str], &str)] = &[
@@ -112,55 +104,29 @@ const REFUSED: &[(Asked, &[&str], &str)] = &[
     ),
 ];
 
-fn assert_done(
-    rt: &impl Abort,
-    alloc: Global,
-    asked: &Asked,
-    table: &[u8],
-    deltas: &[&str],
-    wanted: &[u8],
-) {
-    let mut output = Vec::new(alloc);
-    let mut taken = Counted::new(&mut output);
-    let batch = asked.batch(rt, alloc);
-    let answer = run(rt, alloc, batch, table, deltas, NONE_FAILS, &mut taken);
-    drop(taken);
-    assert_same(rt, "the status", status(&answer), 0);
-    assert_text(rt, alloc, output.as_slice(), wanted);
-}
-
 #[test]
 fn a_batch_writes_what_it_is_asked_for(rt: HostRuntime) {
     let table = text_of(rt.alloc(), BASE_TABLE).expect(&rt, "the table");
     for (asked, deltas, output) in DONE {
-        let wanted = text_of(rt.alloc(), output).expect(&rt, "the output");
-        assert_done(&rt, rt.alloc(), asked, &table, deltas, &wanted);
+        let output = output.text(&rt, rt.alloc());
+        let inputs = Inputs {
+            table: &table,
+            deltas,
+            read: NONE_FAILS,
+        };
+        assert_batch(&rt, rt.alloc(), asked, inputs, (0, &output, ""));
     }
-}
-
-// Asserts that a batch answers a fault, and writes nothing.
-fn assert_refused(
-    rt: &impl Abort,
-    alloc: Global,
-    asked: &Asked,
-    table: &[u8],
-    deltas: &[&str],
-    line: &str,
-) {
-    let mut output = Vec::new(alloc);
-    let mut taken = Counted::new(&mut output);
-    let batch = asked.batch(rt, alloc);
-    let answer = run(rt, alloc, batch, table, deltas, NONE_FAILS, &mut taken);
-    drop(taken);
-    assert_same(rt, line, status(&answer), 1);
-    assert_same(rt, line, output.len(), 0);
-    assert_told(rt, alloc, answer, line);
 }
 
 #[test]
 fn a_batch_at_fault_writes_nothing(rt: HostRuntime) {
     let table = text_of(rt.alloc(), BASE_TABLE).expect(&rt, "the table");
     for (asked, deltas, line) in REFUSED {
-        assert_refused(&rt, rt.alloc(), asked, &table, deltas, line);
+        let inputs = Inputs {
+            table: &table,
+            deltas,
+            read: NONE_FAILS,
+        };
+        assert_batch(&rt, rt.alloc(), asked, inputs, (1, b"", line));
     }
 }
