@@ -30,7 +30,7 @@ pub use batches::{Batch, TakesStatements, read_delta, read_inputs, run_batch, ru
 pub use coll_history::{BenchFault, Session};
 pub use faults::{Fault, RunFault};
 pub use laws::{lack_of_memory_shows, refused_lines_change_nothing};
-pub use replies::write_history_line;
+pub use replies::{write_counted, write_history_line, write_told_line};
 pub use reports::{exit_status, write_fault};
 pub use runs::run_session;
-pub use serving::RunState;
+pub use serving::{RunState, write_failed};

@@ -235,7 +235,7 @@ fn write_refused<W: Sink>(out: &mut W, fault: Fault) -> Result<(), WriteStop>
 {
     match fault {
         Fault::Bench(refused) => write_bench_refused(out, refused),
-        _ => write_told(out, fault),
+        _ => write_told_line(out, fault),
     }
 }
 
@@ -248,7 +248,7 @@ fn write_bench_refused<W: Sink>(out: &mut W, refused: BenchFault) -> Result<(), 
         BenchFault::StillNeeded { statement, refusal } => {
             write_still_needed(out, statement, refusal)
         }
-        _ => write_told(out, Fault::Bench(refused)),
+        _ => write_told_line(out, Fault::Bench(refused)),
     }
 }
 
@@ -275,8 +275,8 @@ fn write_still_needed<W: Sink>(
     )
 }
 
-// Writes the reply to what is refused and told by its number and its name.
-fn write_told<W: Sink>(out: &mut W, fault: Fault) -> Result<(), WriteStop>
+/// Writes the reply to what is refused and told by its number and its name. Where it stops, the device has taken a prefix of it.
+pub fn write_told_line<W: Sink>(out: &mut W, fault: Fault) -> Result<(), WriteStop>
     ensures { Writes (W.taken out.old) (W.taken out.new) (W.failed out.old) (W.failed out.new) (told_line (codes "refused ") fault) result }
 {
     write_pieces(
@@ -291,9 +291,9 @@ fn write_told<W: Sink>(out: &mut W, fault: Fault) -> Result<(), WriteStop>
     )
 }
 
-// Writes a word and a number, and the line's end.
+/// Writes a word and a number, and the line's end. Where it stops, the device has taken a prefix of it.
 #[tactic(auto, unfolding(crate::specs::Replies::counted_line))]
-fn write_counted<W: Sink>(out: &mut W, word: &[u8], count: u64) -> Result<(), WriteStop>
+pub fn write_counted<W: Sink>(out: &mut W, word: &[u8], count: u64) -> Result<(), WriteStop>
     ensures { Writes (W.taken out.old) (W.taken out.new) (W.failed out.old) (W.failed out.new) (counted_line word.now count) result }
 {
     write_pieces(

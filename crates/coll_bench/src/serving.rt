@@ -252,8 +252,8 @@ impl RunState {
     }
 }
 
-// The fault of a run of which a write failed.
-fn write_failed(stop: WriteStop) -> RunFault
+/// The fault of a run of which a write failed.
+pub fn write_failed(stop: WriteStop) -> RunFault
     ensures fault { result ≡ failed_write }
     ensures ends { EndsSession result.fault }
 {

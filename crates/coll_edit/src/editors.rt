@@ -30,13 +30,15 @@ use crate::devices::OpensFiles;
 use crate::help::{write_help, write_number_help};
 use crate::messages::{Origin, end_prompt, prompt, tell_refusal};
 use crate::own_lines::{OwnLine, own_line};
-use crate::replies::{flush, write_count, write_failed, write_refusal};
+use crate::replies::{flush, write_count, write_refusal};
 use crate::showing::write_shown;
 use crate::statements::write_statements;
 use crate::watched::Watched;
 use crate::word_lists::write_words;
 use coll_advice::{Found, faults_of};
-use coll_bench::{BenchFault, Fault, RunFault, RunState, TakesStatements, read_delta};
+use coll_bench::{
+    BenchFault, Fault, RunFault, RunState, TakesStatements, read_delta, write_failed,
+};
 use coll_devices::{ReadStop, Sink, Source, WriteStop};
 use coll_explanations::explain;
 use coll_lex::{LexFault, TextBuf};

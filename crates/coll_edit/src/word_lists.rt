@@ -9,8 +9,8 @@ ghost use Rattle.coll_nodes.specs.TableLayout.{collation};
 ghost use Rattle.coll_ranks.specs.Ranks.{AreRanksOf};
 ghost use Rattle.coll_bench.specs.Serving.{block_of, history_of, lexer_of};
 
-use crate::replies::{write_count, write_failed};
-use coll_bench::{Fault, RunFault, RunState};
+use crate::replies::write_count;
+use coll_bench::{Fault, RunFault, RunState, write_failed};
 use coll_devices::{Sink, Source, WriteStop};
 use coll_key::{KeyFault, Ranks};
 use coll_lex::LexFault;

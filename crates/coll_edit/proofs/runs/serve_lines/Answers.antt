@@ -21,7 +21,8 @@ lines-init g c = record {
       (unserved_start c.args.editor.now unserved)
       (ap (λ (r : ReaderState). r.ended) c.requires) (unread_begun c.args.reader.now (g.R.Source.left c.args.input.now) text c.requires left_is) taken_is;
   asked = λ text unserved left_is.
-      asked_begun text (unread c.args.reader.now (g.R.Source.left c.args.input.now)) c.args.editor.now unserved (unread_begun c.args.reader.now (g.R.Source.left c.args.input.now) text c.requires left_is);
+      asked_begun text (unread c.args.reader.now (g.R.Source.left c.args.input.now)) c.args.editor.now unserved
+      (unread_begun c.args.reader.now (g.R.Source.left c.args.input.now) text c.requires left_is);
 }
 
 pub lines-preserved : goal.lines-preserved
@@ -93,7 +94,8 @@ returns-in-Err-serve-clause-left g c unserved answered text left_is =
     let line = gives_line c.lines.reader c.advance.new.self (left c.lines.input) (left c.advance.new.input) (g.R.Source.failed c.lines.input) (g.R.Source.failed c.advance.new.input)
     c.in-Ok-true.field-0 c.in-Ok-true.ensures c.in-Ok-true.field-0-test in
     line_leaves text c.advance.new.self.ended (unread c.lines.reader (left c.lines.input)) (unread c.advance.new.self (left c.advance.new.input))
-    (taken (device_of c.lines.output)) (taken (device_of c.serve.new.output)) c.lines.editor c.serve.new.self c.line.result.now (Err c.in-Err-serve.ended) (c.lines.invariant.asked text unserved left_is)
+    (taken (device_of c.lines.output)) (taken (device_of c.serve.new.output)) c.lines.editor c.serve.new.self c.line.result.now
+    (Err c.in-Err-serve.ended) (c.lines.invariant.asked text unserved left_is)
     (subst (λ (l : List ℕ). Cuts c.advance.new.self.ended (unread c.lines.reader (left c.lines.input)) (unread c.advance.new.self (left c.advance.new.input)) l) (sym c.line.ensures) line.cut)
     (subst (λ (l : List ℕ). IsInLine l) (sym c.line.ensures) line.whole) c.in-Err-serve.ensures.served answered
 
@@ -104,7 +106,8 @@ returns-in-Ok-End-clause-left g c unserved answered text left_is =
     let line = gives_line c.lines.reader c.advance.new.self (left c.lines.input) (left c.advance.new.input) (g.R.Source.failed c.lines.input) (g.R.Source.failed c.advance.new.input)
     c.in-Ok-true.field-0 c.in-Ok-true.ensures c.in-Ok-true.field-0-test in
     line_leaves text c.advance.new.self.ended (unread c.lines.reader (left c.lines.input)) (unread c.advance.new.self (left c.advance.new.input))
-    (taken (device_of c.lines.output)) (taken (device_of c.serve.new.output)) c.lines.editor c.serve.new.self c.line.result.now (Ok c.in-Ok-End.field-0) (c.lines.invariant.asked text unserved left_is)
+    (taken (device_of c.lines.output)) (taken (device_of c.serve.new.output)) c.lines.editor c.serve.new.self c.line.result.now
+    (Ok c.in-Ok-End.field-0) (c.lines.invariant.asked text unserved left_is)
     (subst (λ (l : List ℕ). Cuts c.advance.new.self.ended (unread c.lines.reader (left c.lines.input)) (unread c.advance.new.self (left c.advance.new.input)) l) (sym c.line.ensures) line.cut)
     (subst (λ (l : List ℕ). IsInLine l) (sym c.line.ensures) line.whole) c.in-Ok-End.ensures.served answered
 

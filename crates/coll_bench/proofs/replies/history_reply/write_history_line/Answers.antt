@@ -10,6 +10,7 @@ unfolding history_line
 returns-in-Equivalence g c =
     record {
       sent = let taken = g.W.Sink.taken in
-          subst (λ (s : Statement). Sends (taken c.args.out.now) (taken c.write_names.new.out) (history_line c.args.number s) c.write_names.result) (sym c.in-Equivalence.is) c.write_names.ensures.sent;
+          subst (λ (s : Statement). Sends (taken c.args.out.now) (taken c.write_names.new.out) (history_line c.args.number s) c.write_names.result)
+          (sym c.in-Equivalence.is) c.write_names.ensures.sent;
       errors = search rules;
     }

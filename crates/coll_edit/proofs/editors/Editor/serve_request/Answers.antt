@@ -18,4 +18,4 @@ returns-in-Ok-clause-served g c =
 pub returns-in-Err-clause-served : goal.returns-in-Err-clause-served
 returns-in-Err-clause-served g c =
     let (starved, sent, history) = c.in-Err.ensures.answered in
-    inl (c.answer_asked.ensures.unanswered, starved, (c.write_failed.ensures, sent), history)
+    inl (c.answer_asked.ensures.unanswered, starved, (c.write_failed.ensures.fault, sent), history)
