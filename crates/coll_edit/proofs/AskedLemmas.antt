@@ -86,8 +86,8 @@ left_later xs ys is = list_any-append (λ (r : RequestAt). is_left r.request) xs
     or_true true = refl
     or_true false = refl
 
-asked_step : (text : List ℕ) (ended : Bool) (unread0 unread1 : Option (List ℕ)) (old new : Editor) (line : List ℕ) (memory : Bool) → Asked text unread0 old → Cuts ended unread0 unread1 line → IsInLine line
-    → StepsTo memory old new line → Asked text unread1 new
+asked_step : (text : List ℕ) (ended : Bool) (unread0 unread1 : Option (List ℕ)) (old new : Editor) (line : List ℕ) (memory : Bool)
+    → Asked text unread0 old → Cuts ended unread0 unread1 line → IsInLine line → StepsTo memory old new line → Asked text unread1 new
 asked_step text ended unread0 unread1 old new line memory (lines, rest, starved, asked, a) cuts whole t =
     let (rest2, unread_is, cut) = unread_after ended unread0 unread1 rest line a.unread_is cuts in
     let s = lexer_of (run_of old) in

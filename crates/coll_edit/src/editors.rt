@@ -61,7 +61,7 @@ pub struct Editor {
 }
 
 /// What comes next.
-#[derive(Clone, Copy, Debug, PartialEq, Eq)]
+#[derive(Clone, Copy)]
 pub(crate) enum Next {
     /// A further line.
     Line,
@@ -309,14 +309,37 @@ impl Editor {
         ensures input { IfErr result (λ ended. ended.input ≡ 0) }
     {
         match own {
-            OwnLine::Quit => Ok(Next::End),
             OwnLine::Key(text) => self.answer_command(Command::Key(text), output, messages),
             OwnLine::Compare(text, other) => {
                 self.answer_command(Command::Compare(text, other), output, messages)
             }
-            OwnLine::Words(name) => self.answer_words(name, output, messages, files),
-            OwnLine::Write(name) => self.answer_write(name, output, messages, files),
-            own => self.answer_table(own, output, messages),
+            own => {
+                let answered = self.answer_lent(&own, output, messages, files);
+                drop(own);
+                answered
+            }
+        }
+    }
+
+    // Answers a line of `edit` that is no command of the session.
+    fn answer_lent<W: Sink, M: Sink, F: OpensFiles>(
+        &mut self,
+        own: &OwnLine,
+        output: &mut Watched<W>,
+        messages: &mut M,
+        files: &mut F,
+    ) -> Result<Next, RunFault>
+        ensures history { history_of (run_of self.new) ≡ history_of (run_of self.old) }
+        ensures block { block_of (run_of self.new) ≡ block_of (run_of self.old) }
+        ensures parser { lexer_of (run_of self.new) ≡ lexer_of (run_of self.old) }
+        ensures answered { answered_by self.new ≡ answered_by self.old }
+        ensures input { IfErr result (λ ended. ended.input ≡ 0) }
+    {
+        match own {
+            OwnLine::Quit => Ok(Next::End),
+            OwnLine::Words(name) => self.answer_words(name.get(), output, messages, files),
+            OwnLine::Write(name) => self.answer_write(name.get(), output, messages, files),
+            _ => self.answer_table(own, output, messages),
         }
     }
 
@@ -347,15 +370,14 @@ impl Editor {
     // Answers a line of `edit` that asks for nothing but the table and the history.
     fn answer_table<W: Sink, M: Sink>(
         &self,
-        own: OwnLine,
+        own: &OwnLine,
         output: &mut Watched<W>,
         messages: &mut M,
     ) -> Result<Next, RunFault>
         ensures { IfErr result (λ ended. ended.input ≡ 0) }
     {
-        let wrote = self.write_answer(&own, output);
-        self.tell_told(output, messages, origin_of(&own));
-        drop(own);
+        let wrote = self.write_answer(own, output);
+        self.tell_told(output, messages, origin_of(own));
         match wrote {
             Ok(()) => Ok(Next::Line),
             Err(stop) => Err(write_failed(stop)),
@@ -402,26 +424,22 @@ impl Editor {
     // Answers `:write`: the statements that remain go into a new file.
     fn answer_write<W: Sink, M: Sink, F: OpensFiles>(
         &self,
-        name: TextBuf,
+        name: &str,
         output: &mut Watched<W>,
         messages: &mut M,
         files: &mut F,
     ) -> Result<Next, RunFault>
         ensures { IfErr result (λ ended. ended.input ≡ 0) }
     {
-        match files.create(name.get()) {
+        match files.create(name) {
             Ok(mut file) => {
                 let wrote = self.write_file(&mut file);
                 drop(file);
-                drop(name);
                 self.reply_written(wrote, output, messages)
             }
             Err(reason) => {
                 let fault = Fault::Write(WriteStop::WriteFault);
-                let origin = Origin::Unopened(name.get(), reason);
-                let replied = self.reply_fault(fault, origin, output, messages);
-                drop(name);
-                replied
+                self.reply_fault(fault, Origin::Unopened(name, reason), output, messages)
             }
         }
     }
@@ -458,7 +476,7 @@ impl Editor {
     // Answers `:words`: the words of a file in the order now.
     fn answer_words<W: Sink, M: Sink, F: OpensFiles>(
         &mut self,
-        name: TextBuf,
+        name: &str,
         output: &mut Watched<W>,
         messages: &mut M,
         files: &mut F,
@@ -469,7 +487,7 @@ impl Editor {
         ensures answered { answered_by self.new ≡ answered_by self.old }
         ensures input { IfErr result (λ ended. ended.input ≡ 0) }
     {
-        match files.open(name.get()) {
+        match files.open(name) {
             Ok(mut file) => {
                 let wrote = write_words(self.alloc, &mut self.run, &mut file, output);
                 drop(file);
@@ -477,10 +495,7 @@ impl Editor {
             }
             Err(reason) => {
                 let fault = Fault::Read(ReadStop::ReadFault);
-                let origin = Origin::Unopened(name.get(), reason);
-                let replied = self.reply_fault(fault, origin, output, messages);
-                drop(name);
-                replied
+                self.reply_fault(fault, Origin::Unopened(name, reason), output, messages)
             }
         }
     }
@@ -488,7 +503,7 @@ impl Editor {
     // Replies to `:words` where a line is at fault, a read fails or memory is refused.
     fn reply_words<W: Sink, M: Sink>(
         &self,
-        name: TextBuf,
+        name: &str,
         wrote: Result<(), RunFault>,
         output: &mut Watched<W>,
         messages: &mut M,
@@ -496,20 +511,12 @@ impl Editor {
         ensures { IfErr result (λ ended. ended.input ≡ 0) }
     {
         match wrote {
-            Ok(()) => {
-                drop(name);
-                Ok(Next::Line)
-            }
+            Ok(()) => Ok(Next::Line),
             Err(ended) => match ended.fault {
-                Fault::Write(stop) => {
-                    drop(name);
-                    Err(write_failed(stop))
-                }
+                Fault::Write(stop) => Err(write_failed(stop)),
                 fault => {
-                    let origin = Origin::File(name.get(), ended.line);
-                    let replied = self.reply_fault(fault, origin, output, messages);
-                    drop(name);
-                    replied
+                    let origin = Origin::File(name, ended.line);
+                    self.reply_fault(fault, origin, output, messages)
                 }
             },
         }

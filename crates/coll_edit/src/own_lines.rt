@@ -19,7 +19,7 @@ use coll_syntax::{Id, SyntaxFault, characters, ended, id_of, is_word};
 use std::alloc::Global;
 
 /// A line that stands beside those of a session.
-#[derive(Debug, Drop)]
+#[derive(Drop)]
 pub enum OwnLine {
     /// `:show ID`: an entry, with what stands beside it.
     Show(Id),

@@ -99,15 +99,26 @@ fn read_before<R: Source>(
 // Words with keys by the table before, sorted by these, and then sorted anew by the table now.
 fn list_anew(alloc: Global, table: &Table, words: Vec<Word>) -> Result<Vec<ListedWord>, KeyFault> {
     let mut list = listed(alloc, words)?;
-    sort_listed(&mut list)?;
-    tell_before(&mut list);
-    tell_behind(&mut list);
+    match sort_anew(alloc, table, &mut list) {
+        Ok(()) => Ok(list),
+        Err(fault) => {
+            drop(list);
+            Err(fault)
+        }
+    }
+}
+
+// Sorts a list with keys by the table before, tells its words what stands beside them, and sorts it anew by the table now.
+fn sort_anew(alloc: Global, table: &Table, list: &mut Vec<ListedWord>) -> Result<(), KeyFault> {
+    sort_listed(list)?;
+    tell_before(list);
+    tell_behind(list);
     let ranks = Ranks::new(alloc, table)?;
-    let keyed = key_anew(alloc, table, &ranks, &mut list);
+    let keyed = key_anew(alloc, table, &ranks, list);
     drop(ranks);
     keyed?;
-    sort_listed(&mut list)?;
-    Ok(list)
+    sort_listed(list)?;
+    Ok(())
 }
 
 // Words with the numbers of their lines, from 1.
@@ -165,7 +176,7 @@ fn key_anew(
 {
     for listed in list.iter_mut() {
         match Word::new(alloc, table, ranks, listed.word.text()) {
-            Ok(word) => listed.word = word,
+            Ok(word) => drop(std::mem::replace(&mut listed.word, word)),
             Err(fault) => return Err(fault),
         }
     }
