@@ -3,7 +3,6 @@ use Rattle.std.specs.Prelude.{◌≡◌, ℕ, Bool, true, false, List, map, Opti
 use Rattle.std.specs.List.{list_any}
 use Rattle.coll_devices.specs.PhysicalLines.{lines_of}
 use Rattle.coll_lex.specs.LogicalLines.{first_state, logical_lines}
-use Rattle.coll_history.specs.Histories.{History}
 use Rattle.coll_requests.specs.SessionLines.{parsed}
 use Rattle.coll_requests.specs.Requests.{requests}
 use Rattle.coll_requests.specs.declared.delta_files.StatementAt.{StatementAt}
