@@ -598,8 +598,8 @@ impl TakesStatements for Editor {
     }
 
     ghost stays = { λ editor. record {
-        puts = record { start = refl; remaining = sym (append-nil (history_of (run_of editor)).remaining); undone = λ none. none };
-        unserved = λ kept. kept;
+      puts = record { start = refl; remaining = sym (append-nil (history_of (run_of editor)).remaining); undone = λ none. none };
+      unserved = λ kept. kept;
     } };
 
     ghost use Rattle.std.proofs.Common.{refl, sym, append-nil};

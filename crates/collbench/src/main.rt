@@ -24,9 +24,7 @@ mod sessions;
 mod standard_input;
 mod words;
 
-use coll_bench::{
-    Batch, Fault, RunFault, exit_status, read_inputs, run_batch_keyed, write_fault,
-};
+use coll_bench::{Batch, Fault, RunFault, exit_status, read_inputs, run_batch_keyed, write_fault};
 use coll_command_line::{Request, Task, Unasked, read_words};
 use coll_edit::Editor;
 use coll_import::write_symbols_behind;
