@@ -1,5 +1,6 @@
 -- The directive that a line is, by what stands at its front.
-use Rattle.std.proofs.Common.{◌≡◌, ℕ, ◌+◌, ◌<◌, List, length, drop, get_or, codes, Some, None, true, false, refl, ap, sym, ◌∙◌, arith, ◌≤◌, ◌-◌, take}
+use Rattle.std.proofs.Common.{◌≡◌, ◌≢◌, ◌==◌, [], ◌∷◌, ℕ, ◌+◌, ◌<◌, List, length, drop, get_or, codes, Some, None, true, false, refl, ap, sym, ◌∙◌, arith, ◌≤◌, ◌-◌, take}
+use Rattle.std.proofs.lemmas.Bool.Decides.{nat_tests}
 use Rattle.std.proofs.lemmas.List.{drop_more, drop_all, take_rest}
 use Rattle.coll_lex.specs.Blanks.{is_blank, past_blanks}
 use Rattle.coll_lex.specs.declared.tokens.Chars.{Chars}
@@ -39,3 +40,44 @@ pub directive_none : (special : Chars) (line : List ℕ) → None ≡ operand_of
     → directive special line ≡ None
 unfolding directive
 directive_none special line e f = rw (← e, ← f) refl
+
+-- a line that begins with another byte is no directive
+
+pub nothing_begun : (text : List ℕ) (w : ℕ) (ws : List ℕ) → length text ≡ 0 → None ≡ operand_of (w ∷ ws) text
+unfolding operand_of
+nothing_begun [] w ws e = refl
+nothing_begun (b ∷ bs) w ws e = absurd (omega (arith, e))
+
+begun_otherwise : (b w : ℕ) (bs ws : List ℕ) → b ≢ w → None ≡ operand_of (w ∷ ws) (b ∷ bs)
+unfolding operand_of
+begun_otherwise b w bs ws h =
+    let other : (w == b) ≡ false = grind (arith, nat_tests) in
+    rw other refl
+
+pub not_begun : (text : List ℕ) (b w : ℕ) (bs ws : List ℕ) → text ≡ b ∷ bs → b ≢ w → None ≡ operand_of (w ∷ ws) text
+not_begun text b w bs ws e h = rw e (begun_otherwise b w bs ws h)
+
+-- which directive a line may be, by its first byte behind the blanks
+
+pub no_directive_in_nothing : (special : Chars) (line : List ℕ) → length (past_blanks line) ≡ 0 → None ≡ directive special line
+no_directive_in_nothing special line e =
+    sym (directive_none special line (nothing_begun (past_blanks line) 99 _ e) (nothing_begun (past_blanks line) 101 _ e))
+
+pub no_comment_directive : (special : Chars) (line bs : List ℕ) (b : ℕ) → past_blanks line ≡ b ∷ bs → b ≡ 99 → None ≡ operand_of (codes "comment_char") (past_blanks line) → None ≡ directive special line
+no_comment_directive special line bs b e is h =
+    let other : b ≢ 101 = grind (arith, nat_tests) in
+    sym (directive_none special line h (not_begun (past_blanks line) b 101 bs _ e other))
+
+pub no_escape_directive : (special : Chars) (line bs : List ℕ) (b : ℕ) → past_blanks line ≡ b ∷ bs → b ≡ 101 → None ≡ operand_of (codes "escape_char") (past_blanks line) → None ≡ directive special line
+no_escape_directive special line bs b e is h =
+    let other : b ≢ 99 = grind (arith, nat_tests) in
+    sym (directive_none special line (not_begun (past_blanks line) b 99 bs _ e other) h)
+
+pub no_directive : (special : Chars) (line bs : List ℕ) (b : ℕ) → past_blanks line ≡ b ∷ bs → b ≢ 99 → b ≢ 101 → None ≡ directive special line
+no_directive special line bs b e h k = sym (directive_none special line (not_begun (past_blanks line) b 99 bs _ e h) (not_begun (past_blanks line) b 101 bs _ e k))
+
+pub escape_directive : (special : Chars) (line bs operand : List ℕ) (b : ℕ) → past_blanks line ≡ b ∷ bs → b ≡ 101 → Some operand ≡ operand_of (codes "escape_char") (past_blanks line)
+    → Some (with_escape special (named_character (past_blanks operand))) ≡ directive special line
+escape_directive special line bs operand b e is h =
+    let other : b ≢ 99 = grind (arith, nat_tests) in
+    sym (directive_escape special line operand (not_begun (past_blanks line) b 99 bs _ e other) h)

@@ -2,7 +2,7 @@
 //!
 //! They are recognised by their bytes, before any escape is read, so a line may hold anything after the part
 //! that decides. The functions here look at one physical line without its carriage return. Another directive is
-//! another arm of `directive`, here and in the definition.
+//! another arm of `directive`, here and in the definition. Nearly all lines are told from a directive by their first byte.
 
 ghost use Rattle.std.specs.Prelude.{◌≡◌, option_map};
 ghost use Rattle.coll_lex.specs.Directives.{operand_of, named_character, with_comment, with_escape, directive};
@@ -66,10 +66,13 @@ pub(crate) fn directive(special: Chars, line: &[u8]) -> Option<Result<Chars, Lex
     ensures { result ≡ directive special line.now }
 {
     let text = past_blanks(line);
-    if let Some(operand) = operand_of(b"comment_char", text) {
+    let (first, _) = text.split_first()?;
+    if *first == b'c' {
+        let operand = operand_of(b"comment_char", text)?;
         return Some(with_comment(special, named_character(past_blanks(operand))));
     }
-    if let Some(operand) = operand_of(b"escape_char", text) {
+    if *first == b'e' {
+        let operand = operand_of(b"escape_char", text)?;
         return Some(with_escape(special, named_character(past_blanks(operand))));
     }
     None
