@@ -1,6 +1,6 @@
 -- The answer to one more physical line, by the scan of its logical line.
 use Rattle.std.proofs.Common.{Result, ◌≡◌, ◌≢◌, ℕ, ◌+◌, ◌<◌, ◌≤◌, ◌&&◌, nat_lt, Bool, true, false, if◌then◌else◌, List, [], ◌∷◌, ◌++◌, map, length}
-use Rattle.std.proofs.Common.{chars, IsUtf8, Option, Some, None, option_map, Ok, Err, refl, ap, sym, ◌∙◌, subst, append_assoc, arith}
+use Rattle.std.proofs.Common.{All, chars, IsUtf8, Option, Some, None, option_map, Ok, Err, refl, ap, sym, ◌∙◌, subst, append_assoc, arith}
 use Rattle.std.specs.Option.{ForSome}
 use Rattle.std.specs.Str.{is_utf8}
 use Rattle.std.specs.declared.alloc.Global.{Global}
@@ -15,7 +15,7 @@ use Rattle.coll_lex.specs.Directives.{directive}
 use Rattle.coll_lex.specs.LogicalLines.{OpenLine, LexerState, dropped, line_of, continued, answer_at, answer_to, needs_memory}
 use Rattle.coll_lex.specs.LogicalLines.{takes_memory, reading_in, answer_in, line_fault, fed_as, fed_text, fed, bytes_before}
 use Rattle.coll_lex.specs.Scanning.{fresh, reading_left, left_in_mode, TakesLine, RefusesLine, gathers_by, GathersLine, IsInWord, is_continued, goes_on, word_token, ending_in, ending}
-use Rattle.coll_lex.specs.Lexer.{lines_in, line_in, added, IsSoundOpen}
+use Rattle.coll_lex.specs.Lexer.{lines_in, line_in, empty_line, added, IsSoundOpen}
 use Rattle.coll_lex.specs.declared.tokens.Chars.{Chars}
 use Rattle.coll_lex.specs.declared.tokens.Piece.{Piece}
 use Rattle.coll_lex.specs.declared.tokens.Token.{Token}
@@ -65,29 +65,43 @@ joined_marks-push escape [] line = append-nil (marks escape false (chars line))
 joined_marks-push escape (l ∷ ls) line = ap (λ ms. marks escape false (chars l) ++ ms) (joined_marks-push escape ls line)
     ∙ sym (append_assoc (marks escape false (chars l)) (joined_marks escape (map chars ls)) (marks escape false (chars line)))
 
+-- a scan has read these physical lines
+pub record ReadsLines (special : Chars) (lines : List (List ℕ)) (s : Scan) : Type 0 where
+  pub reads : (ms : List Mark) → reading_of special.comment (joined_marks special.escape (map chars lines) ++ ms) ≡ reading_left special.comment s ms
+
+pub sound_reads : (special : Chars) (o : Open) → IsSoundOpen special o → ReadsLines special (lines_in o.lines.items) o.scan
+sound_reads special o h = record { reads = h.reads }
+
+pub fresh_reads : (special : Chars) (alloc : Global) → ReadsLines special [] (fresh alloc)
+unfolding joined_marks reading_left
+fresh_reads special alloc = record { reads = λ ms. refl }
+
+pub fresh_from : (special : Chars) (alloc : Global) (s : Scan) → s ≡ fresh alloc → ReadsLines special [] s
+fresh_from special alloc s e = rw e (fresh_reads special alloc)
+
 -- the marked text of one more physical line, and what follows it
-marks_more : (special : Chars) (o : Open) (line : List ℕ) (ms : List Mark) → IsSoundOpen special o
-    → reading_of special.comment (joined_marks special.escape (map chars (lines_in o.lines.items ++ line ∷ [])) ++ ms)
-    ≡ reading_left special.comment o.scan (marks special.escape false (chars line) ++ ms)
-marks_more special o line ms h =
-    rw (joined_marks-push special.escape (lines_in o.lines.items) line, append_assoc (joined_marks special.escape (map chars (lines_in o.lines.items))) (marks special.escape false (chars line)) ms)
+marks_more : (special : Chars) (o : OpenLine) (s : Scan) (line : List ℕ) (ms : List Mark) → ReadsLines special o.lines s
+    → reading_of special.comment (joined_marks special.escape (map chars (o.lines ++ line ∷ [])) ++ ms)
+    ≡ reading_left special.comment s (marks special.escape false (chars line) ++ ms)
+marks_more special o s line ms h =
+    rw (joined_marks-push special.escape o.lines line, append_assoc (joined_marks special.escape (map chars o.lines)) (marks special.escape false (chars line)) ms)
     (h.reads (marks special.escape false (chars line) ++ ms))
 
-reading_more : (special : Chars) (o : Open) (line : List ℕ) → IsSoundOpen special o
-    → reading_in special (lines_in o.lines.items ++ line ∷ []) ≡ reading_left special.comment o.scan (marks special.escape false (chars line) ++ [])
+reading_more : (special : Chars) (o : OpenLine) (s : Scan) (line : List ℕ) → ReadsLines special o.lines s
+    → reading_in special (o.lines ++ line ∷ []) ≡ reading_left special.comment s (marks special.escape false (chars line) ++ [])
 unfolding reading_in
-reading_more special o line h =
-    ap (reading_of special.comment) (sym (append-nil (joined_marks special.escape (map chars (lines_in o.lines.items ++ line ∷ []))))) ∙ marks_more special o line [] h
+reading_more special o s line h =
+    ap (reading_of special.comment) (sym (append-nil (joined_marks special.escape (map chars (o.lines ++ line ∷ []))))) ∙ marks_more special o s line [] h
 
 -- a fault in this physical line
 
 fault_answered : (next : LexerState) (o : OpenLine) (joined : Bool) (r : Reading) (fault : LexFault) → r.stop ≡ AtFault fault → answer_to next o joined r ≡ Err fault
 fault_answered next o joined r fault e = rw e refl
 
-pub text_refused : (next : LexerState) (o : Open) (line : List ℕ) (bytes : ℕ) (fault : LexFault) → IsSoundOpen next.special o → RefusesLine next.special o.scan (chars line) fault
-    → answer_in next (added (line_in o) line bytes) line ≡ Err fault
-text_refused next o line bytes fault h t =
-    fault_answered next (added (line_in o) line bytes) _ _ fault (rw (reading_more next.special o line h) (t.stops []))
+pub text_refused : (next : LexerState) (o : OpenLine) (s : Scan) (line : List ℕ) (bytes : ℕ) (fault : LexFault) → ReadsLines next.special o.lines s → RefusesLine next.special s (chars line) fault
+    → answer_in next (added o line bytes) line ≡ Err fault
+text_refused next o s line bytes fault h t =
+    fault_answered next (added o line bytes) _ _ fault (rw (reading_more next.special o s line h) (t.stops []))
 
 -- lack of memory
 
@@ -106,12 +120,12 @@ gathered next o true tokens InString e f = refl
 gathered next o false tokens InString e f = refl
 
 -- memory is refused in the scan of a line
-pub text_starved : (next : LexerState) (o : Open) (line : List ℕ) (bytes : ℕ) → IsSoundOpen next.special o → GathersLine next.special o.scan (chars line)
-    → needs_memory (answer_in next (added (line_in o) line bytes) line) ≡ true
-text_starved next o line bytes h t =
-    let lines = lines_in o.lines.items ++ line ∷ [] in
+pub text_starved : (next : LexerState) (o : OpenLine) (s : Scan) (line : List ℕ) (bytes : ℕ) → ReadsLines next.special o.lines s → GathersLine next.special s (chars line)
+    → needs_memory (answer_in next (added o line bytes) line) ≡ true
+text_starved next o s line bytes h t =
+    let lines = o.lines ++ line ∷ [] in
     let r = reading_in next.special lines in
-    gathered next (added (line_in o) line bytes) (is_joined next.special.escape (chars line)) r.tokens r.stop (rw (reading_more next.special o line h) (t.reads []))
+    gathered next (added o line bytes) (is_joined next.special.escape (chars line)) r.tokens r.stop (rw (reading_more next.special o s line h) (t.reads []))
     (reading_in_faults next.special lines)
 
 -- the end of the physical line
@@ -145,9 +159,9 @@ after_at_end : (comment : ℕ) (s : Scan) → reading_left comment s [] ≡ reco
 unfolding reading_left
 after_at_end comment s = rw (left_at_end comment s.mode s.partial s.pieces) refl
 
-text_read : (special : Chars) (o : Open) (line : List ℕ) (scan : Scan) → IsSoundOpen special o → TakesLine special o.scan (chars line) scan
-    → reading_in special (lines_in o.lines.items ++ line ∷ []) ≡ record { tokens = scan.tokens ++ tokens_in scan.mode scan.partial; stop = stop_in scan.mode }
-text_read special o line scan h t = reading_more special o line h ∙ (t.reads [] ∙ after_at_end special.comment scan)
+text_read : (special : Chars) (o : OpenLine) (s : Scan) (line : List ℕ) (scan : Scan) → ReadsLines special o.lines s → TakesLine special s (chars line) scan
+    → reading_in special (o.lines ++ line ∷ []) ≡ record { tokens = scan.tokens ++ tokens_in scan.mode scan.partial; stop = stop_in scan.mode }
+text_read special o s line scan h t = reading_more special o s line h ∙ (t.reads [] ∙ after_at_end special.comment scan)
 
 -- the reading of a line that ends in a mode
 abbrev ended : Mode → (partial : List ℕ) → List Token → Reading
@@ -187,16 +201,16 @@ kept next o mode.Comment true partial tokens f = cc
 kept next o mode.Comment false partial tokens f = cc
 
 -- the answer by the scan after the line
-answer_by : (next : LexerState) (o : Open) (line : List ℕ) (bytes : ℕ) (scan : Scan) → IsSoundOpen next.special o → TakesLine next.special o.scan (chars line) scan
-    → answer_in next (added (line_in o) line bytes) line ≡ answer_to next (added (line_in o) line bytes) scan.escaped (ended scan.mode scan.partial scan.tokens)
-answer_by next o line bytes scan h t =
-    rw (text_read next.special o line scan h t, ← t.ends) refl
+answer_by : (next : LexerState) (o : OpenLine) (s : Scan) (line : List ℕ) (bytes : ℕ) (scan : Scan) → ReadsLines next.special o.lines s → TakesLine next.special s (chars line) scan
+    → answer_in next (added o line bytes) line ≡ answer_to next (added o line bytes) scan.escaped (ended scan.mode scan.partial scan.tokens)
+answer_by next o s line bytes scan h t =
+    rw (text_read next.special o s line scan h t, ← t.ends) refl
 
 -- a line that ends its logical line
-pub text_ends : (next : LexerState) (o : Open) (line : List ℕ) (bytes : ℕ) (scan : Scan) (tokens : List Token) → IsSoundOpen next.special o → TakesLine next.special o.scan (chars line) scan
-    → goes_on scan ≡ false → ending scan ≡ Ok tokens → answer_in next (added (line_in o) line bytes) line ≡ Ok (line_of o.number tokens, next)
-text_ends next o line bytes scan tokens h t f e =
-    answer_by next o line bytes scan h t ∙ given next (added (line_in o) line bytes) scan.mode scan.escaped scan.partial scan.tokens tokens f e
+pub text_ends : (next : LexerState) (o : OpenLine) (s : Scan) (line : List ℕ) (bytes : ℕ) (scan : Scan) (tokens : List Token) → ReadsLines next.special o.lines s → TakesLine next.special s (chars line) scan
+    → goes_on scan ≡ false → ending scan ≡ Ok tokens → answer_in next (added o line bytes) line ≡ Ok (line_of o.number tokens, next)
+text_ends next o s line bytes scan tokens h t f e =
+    answer_by next o s line bytes scan h t ∙ given next (added o line bytes) scan.mode scan.escaped scan.partial scan.tokens tokens f e
 
 worded : (next : LexerState) (o : OpenLine) (m : Mode) (joined : Bool) (partial : List ℕ) (tokens : List Token)
     → m ≡ mode.Plain → 0 < length partial → needs_memory (answer_to next o joined (ended m partial tokens)) ≡ true
@@ -210,49 +224,42 @@ worded next o mode.SymbolInText joined partial tokens e f = cc
 worded next o mode.Comment joined partial tokens e f = cc
 
 -- memory is refused for the word that a line ends with
-pub text_word_starved : (next : LexerState) (o : Open) (line : List ℕ) (bytes : ℕ) (scan : Scan) → IsSoundOpen next.special o → TakesLine next.special o.scan (chars line) scan
-    → IsInWord scan → needs_memory (answer_in next (added (line_in o) line bytes) line) ≡ true
-text_word_starved next o line bytes scan h t w =
-    rw (answer_by next o line bytes scan h t) (worded next (added (line_in o) line bytes) scan.mode scan.escaped scan.partial scan.tokens w.outside w.begun)
+pub text_word_starved : (next : LexerState) (o : OpenLine) (s : Scan) (line : List ℕ) (bytes : ℕ) (scan : Scan) → ReadsLines next.special o.lines s → TakesLine next.special s (chars line) scan
+    → IsInWord scan → needs_memory (answer_in next (added o line bytes) line) ≡ true
+text_word_starved next o s line bytes scan h t w =
+    rw (answer_by next o s line bytes scan h t) (worded next (added o line bytes) scan.mode scan.escaped scan.partial scan.tokens w.outside w.begun)
 
 -- a line that ends with a symbol or a string open
-pub text_ends_open : (next : LexerState) (o : Open) (line : List ℕ) (bytes : ℕ) (scan : Scan) (fault : LexFault) → IsSoundOpen next.special o → TakesLine next.special o.scan (chars line) scan
-    → goes_on scan ≡ false → ending scan ≡ Err fault → answer_in next (added (line_in o) line bytes) line ≡ Err fault
-text_ends_open next o line bytes scan fault h t f e =
-    answer_by next o line bytes scan h t ∙ refused next (added (line_in o) line bytes) scan.mode scan.escaped scan.partial scan.tokens fault f e
+pub text_ends_open : (next : LexerState) (o : OpenLine) (s : Scan) (line : List ℕ) (bytes : ℕ) (scan : Scan) (fault : LexFault) → ReadsLines next.special o.lines s → TakesLine next.special s (chars line) scan
+    → goes_on scan ≡ false → ending scan ≡ Err fault → answer_in next (added o line bytes) line ≡ Err fault
+text_ends_open next o s line bytes scan fault h t f e =
+    answer_by next o s line bytes scan h t ∙ refused next (added o line bytes) scan.mode scan.escaped scan.partial scan.tokens fault f e
 
 -- a line that is joined
-pub text_goes_on : (next : LexerState) (o : Open) (line : List ℕ) (bytes : ℕ) (scan : Scan) → IsSoundOpen next.special o → TakesLine next.special o.scan (chars line) scan
-    → goes_on scan ≡ true → answer_in next (added (line_in o) line bytes) line ≡ continued next (added (line_in o) line bytes)
-text_goes_on next o line bytes scan h t f =
-    answer_by next o line bytes scan h t ∙ kept next (added (line_in o) line bytes) scan.mode scan.escaped scan.partial scan.tokens f
+pub text_goes_on : (next : LexerState) (o : OpenLine) (s : Scan) (line : List ℕ) (bytes : ℕ) (scan : Scan) → ReadsLines next.special o.lines s → TakesLine next.special s (chars line) scan
+    → goes_on scan ≡ true → answer_in next (added o line bytes) line ≡ continued next (added o line bytes)
+text_goes_on next o s line bytes scan h t f =
+    answer_by next o s line bytes scan h t ∙ kept next (added o line bytes) scan.mode scan.escaped scan.partial scan.tokens f
 
 -- memory is refused for a line that is joined
-pub text_joined_starved : (next : LexerState) (o : Open) (line : List ℕ) (bytes : ℕ) (scan : Scan) → IsSoundOpen next.special o → TakesLine next.special o.scan (chars line) scan
-    → goes_on scan ≡ true → needs_memory (answer_in next (added (line_in o) line bytes) line) ≡ true
-text_joined_starved next o line bytes scan h t f = rw (text_goes_on next o line bytes scan h t f) refl
+pub text_joined_starved : (next : LexerState) (o : OpenLine) (s : Scan) (line : List ℕ) (bytes : ℕ) (scan : Scan) → ReadsLines next.special o.lines s → TakesLine next.special s (chars line) scan
+    → goes_on scan ≡ true → needs_memory (answer_in next (added o line bytes) line) ≡ true
+text_joined_starved next o s line bytes scan h t f = rw (text_goes_on next o s line bytes scan h t f) refl
 
 -- an open line stays sound
-
-pub sound_new : (special : Chars) (o : Open) (alloc : Global) (number : ℕ) → line_in o ≡ record { number = number; lines = []; bytes = 0 } → o.scan ≡ fresh alloc → IsSoundOpen special o
-unfolding joined_marks reading_left
-sound_new special o alloc number e f =
-    let none : lines_in o.lines.items ≡ [] = ap (λ (l : OpenLine). l.lines) e in
-    let bytes : o.bytes ≡ 0 = ap (λ (l : OpenLine). l.bytes) e in
-    record { reads = λ ms. rw (none, f) refl; text = rw none (All-nil IsUtf8); unescaped = rw f refl; short = omega arith }
 
 after_unescaped : (comment : ℕ) (s : Scan) (ms : List Mark) → reading_left comment s ms ≡ reading_left comment (record s { escaped = false }) ms
 unfolding reading_left
 after_unescaped comment s ms = refl
 
-pub sound_more : (special : Chars) (old new : Open) (line : List ℕ) (bytes : ℕ) (scan : Scan) → IsSoundOpen special old → TakesLine special old.scan (chars line) scan
-    → IsUtf8 line → line_in new ≡ added (line_in old) line bytes → new.scan ≡ record scan { escaped = false } → old.bytes + bytes ≤ most_line_bytes → IsSoundOpen special new
-sound_more special old new line bytes scan h t text e f short =
-    let lines : lines_in new.lines.items ≡ lines_in old.lines.items ++ line ∷ [] = ap (λ (l : OpenLine). l.lines) e in
-    let sum : new.bytes ≡ old.bytes + bytes = ap (λ (l : OpenLine). l.bytes) e in
+pub sound_more : (special : Chars) (o : OpenLine) (s : Scan) (new : Open) (line : List ℕ) (bytes : ℕ) (scan : Scan) → ReadsLines special o.lines s → All IsUtf8 o.lines → TakesLine special s (chars line) scan
+    → IsUtf8 line → line_in new ≡ added o line bytes → new.scan ≡ record scan { escaped = false } → o.bytes + bytes ≤ most_line_bytes → IsSoundOpen special new
+sound_more special o s new line bytes scan h texts t text e f short =
+    let lines : lines_in new.lines.items ≡ o.lines ++ line ∷ [] = ap (λ (l : OpenLine). l.lines) e in
+    let sum : new.bytes ≡ o.bytes + bytes = ap (λ (l : OpenLine). l.bytes) e in
     record {
-      reads = λ ms. rw (lines, f) (marks_more special old line ms h ∙ (t.reads ms ∙ after_unescaped special.comment scan ms));
-      text = rw lines (All-append IsUtf8 (lines_in old.lines.items) (line ∷ []) h.text (All-cons IsUtf8 line [] text (All-nil IsUtf8)));
+      reads = λ ms. rw (lines, f) (marks_more special o s line ms h ∙ (t.reads ms ∙ after_unescaped special.comment scan ms));
+      text = rw lines (All-append IsUtf8 o.lines (line ∷ []) texts (All-cons IsUtf8 line [] text (All-nil IsUtf8)));
       unescaped = rw f refl;
       short = omega arith;
     }
@@ -277,11 +284,10 @@ passed_next : (s : LexerState) (line : List ℕ) (o : Open) → Some (line_in o)
 unfolding fed
 passed_next s line o e f = rw (← e, f) refl
 
-passed_first : (s : LexerState) (line : List ℕ) (o : Open) → None ≡ s.line → line_in o ≡ record { number = s.count + 1; lines = []; bytes = 0 } → line_fault s.count (0 + length line) ≡ None
-    → fed s line ≡ passed s (line_in o) line (directive s.special (without_return line))
+passed_first : (s : LexerState) (line : List ℕ) → None ≡ s.line → line_fault s.count (0 + length line) ≡ None
+    → fed s line ≡ passed s (empty_line (s.count + 1)) line (directive s.special (without_return line))
 unfolding fed
-passed_first s line o e g f =
-    rw (← e, f) (ap (λ (l : OpenLine). passed s l line (directive s.special (without_return line))) (sym g))
+passed_first s line e f = rw (← e, f) refl
 
 -- bytes that are no text
 
@@ -289,9 +295,8 @@ pub fed_next_no_text : (s : LexerState) (line : List ℕ) (o : Open) → Some (l
     → fed s line ≡ Err NotUtf8
 fed_next_no_text s line o e f wrong = passed_next s line o e f ∙ rw (not_text (is_utf8 (without_return line)) (without_return line) refl wrong) refl
 
-pub fed_first_no_text : (s : LexerState) (line : List ℕ) (o : Open) → None ≡ s.line → line_in o ≡ record { number = s.count + 1; lines = []; bytes = 0 } → line_fault s.count (0 + length line) ≡ None
-    → (IsUtf8 (without_return line) → ⊥) → fed s line ≡ Err NotUtf8
-fed_first_no_text s line o e g f wrong = passed_first s line o e g f ∙ rw (not_text (is_utf8 (without_return line)) (without_return line) refl wrong) refl
+pub fed_first_no_text : (s : LexerState) (line : List ℕ) → None ≡ s.line → line_fault s.count (0 + length line) ≡ None → (IsUtf8 (without_return line) → ⊥) → fed s line ≡ Err NotUtf8
+fed_first_no_text s line e f wrong = passed_first s line e f ∙ rw (not_text (is_utf8 (without_return line)) (without_return line) refl wrong) refl
 
 -- whether memory may be taken for a line is seen by the answer to it
 pub taken_as : (s : LexerState) (line : List ℕ) → takes_memory s line ≡ needs_memory (fed s line)
@@ -304,7 +309,6 @@ pub fed_next : (s : LexerState) (line : List ℕ) (o : Open) → Some (line_in o
     → fed s line ≡ answer_in (dropped s) (added (line_in o) (without_return line) (length line)) (without_return line)
 fed_next s line o e f text = passed_next s line o e f ∙ rw (is_utf8-from_IsUtf8 (without_return line) text) refl
 
-pub fed_first : (s : LexerState) (line : List ℕ) (o : Open) → None ≡ s.line → line_in o ≡ record { number = s.count + 1; lines = []; bytes = 0 } → line_fault s.count (0 + length line) ≡ None
-    → IsUtf8 (without_return line)
-    → fed s line ≡ fed_as (dropped s) (added (line_in o) (without_return line) (length line)) (without_return line) (directive s.special (without_return line))
-fed_first s line o e g f text = passed_first s line o e g f ∙ rw (is_utf8-from_IsUtf8 (without_return line) text) refl
+pub fed_first : (s : LexerState) (line : List ℕ) → None ≡ s.line → line_fault s.count (0 + length line) ≡ None → IsUtf8 (without_return line)
+    → fed s line ≡ fed_as (dropped s) (added (empty_line (s.count + 1)) (without_return line) (length line)) (without_return line) (directive s.special (without_return line))
+fed_first s line e f text = passed_first s line e f ∙ rw (is_utf8-from_IsUtf8 (without_return line) text) refl

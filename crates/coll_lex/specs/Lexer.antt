@@ -20,6 +20,10 @@ lines_in stored = map (λ (line : Vec ℕ Global). line.items) stored
 abbrev pub line_in : Open → OpenLine
 line_in o = record { number = o.number; lines = lines_in o.lines.items; bytes = o.bytes }
 
+-- a logical line with this number and no physical line yet
+abbrev pub empty_line : ℕ → OpenLine
+empty_line number = record { number = number; lines = []; bytes = 0 }
+
 -- the open line with one more physical line, of which this many bytes were handed in
 abbrev pub added : OpenLine → (line : List ℕ) → (bytes : ℕ) → OpenLine
 added o line bytes = record { number = o.number; lines = o.lines ++ line ∷ []; bytes = o.bytes + bytes }

@@ -31,21 +31,20 @@ struct Open {
 }
 
 impl Open {
-    ghost use Rattle.std.specs.Prelude.{◌≡◌, ◌+◌, ◌≤◌, [], false, OnOk};
-    ghost use Rattle.coll_lex.specs.Scanning.{fresh};
-    ghost use Rattle.coll_lex.specs.Lexer.{line_in, added};
+    ghost use Rattle.std.specs.Prelude.{◌≡◌, ◌+◌, ◌≤◌, false, OnOk};
+    ghost use Rattle.coll_lex.specs.Lexer.{line_in, empty_line, added};
     ghost use Rattle.coll_devices.specs.Limits.{most_line_bytes};
 
-    // A logical line with no physical line yet. It takes no memory.
-    fn new(alloc: Global, number: u32) -> Open
-        ensures line { line_in result ≡ record { number = number; lines = []; bytes = 0 } }
-        ensures scan { result.scan ≡ fresh alloc }
+    // A logical line with no physical line yet, and this scan. It takes no memory.
+    fn new(alloc: Global, number: u32, scan: Scan) -> Open
+        ensures line { line_in result ≡ empty_line number }
+        ensures scan { result.scan ≡ scan }
     {
         Open {
             number,
             lines: Vec::new(alloc),
             bytes: 0,
-            scan: Scan::new(alloc),
+            scan,
         }
     }
 
@@ -121,14 +120,14 @@ impl Model for Lexer {
 }
 
 impl Lexer {
-    ghost use Rattle.std.specs.Prelude.{◌≡◌, ◌≢◌, ◌+◌, ◌<◌, ◌≤◌, [], length, Ok, Err, None, Some};
+    ghost use Rattle.std.specs.Prelude.{◌≡◌, ◌≢◌, ◌+◌, ◌<◌, ◌≤◌, length, Ok, Err, None, Some};
     ghost use Rattle.std.specs.Prelude.{option_map, IsSome, IsTrue, IfSome, IfOk, IfErr, OnOk, OnErr};
     ghost use Rattle.coll_devices.specs.PhysicalLines.{without_return};
     ghost use Rattle.coll_lex.specs.Directives.{directive};
     ghost use Rattle.coll_lex.specs.EarlyEnds.{early_end};
     ghost use Rattle.coll_lex.specs.LogicalLines.{first_state, pending, dropped, line_fault, answer_in, fed_as, fed};
     ghost use Rattle.coll_lex.specs.LogicalLines.{needs_memory, takes_memory, outside, number_of};
-    ghost use Rattle.coll_lex.specs.Lexer.{line_in, added, IsSoundOpen};
+    ghost use Rattle.coll_lex.specs.Lexer.{line_in, empty_line, added, IsSoundOpen};
     ghost use Rattle.coll_lex.specs.Names.{AreTokens};
     ghost use Rattle.coll_devices.specs.Limits.{most_line_bytes};
     ghost use Rattle.coll_lex.specs.Limits.{most_lines};
@@ -206,18 +205,9 @@ impl Lexer {
         ensures memory { IfErr result (λ fault. fault ≡ OutOfMemory → IsTrue (takes_memory self.old line.now)) }
         ensures dropped { OnErr result (self.new ≡ dropped self.old) }
     {
-        match self.take_open() {
-            Some(open) => {
-                let bytes = self.count_line(open.bytes, line)?;
-                let text = text_of(bytes)?;
-                self.feed_text(open, line.len(), text)
-            }
-            None => {
-                let open = Open::new(self.alloc, self.count + 1);
-                let bytes = self.count_line(0, line)?;
-                let text = text_of(bytes)?;
-                self.feed_first(open, line.len(), text)
-            }
+        match &self.open {
+            Some(_) => self.feed_next(line),
+            None => self.feed_first(line),
         }
     }
 
@@ -263,17 +253,29 @@ impl Lexer {
     }
 
     // Counts a line that leaves no logical line open.
+    #[inline(always)]
     fn drop_line(&mut self)
         ensures { self.new ≡ dropped self.old }
     {
-        self.open = None;
+        self.close();
         if self.count < MOST_LINES {
             self.count += 1;
         }
     }
 
+    // Drops the line that is open, if one is.
+    #[inline(always)]
+    fn close(&mut self)
+        ensures { self.new ≡ record self.old { line = None } }
+    {
+        if self.open.is_some() {
+            self.open = None;
+        }
+    }
+
     // Counts a line that leaves no logical line open, and lends it without its carriage return, unless it is too
     // long with the bytes before it, or one too many.
+    #[inline(always)]
     fn count_line<'a>(&mut self, before: usize, line: &'a [u8]) -> Result<&'a [u8], LexFault>
         requires { before ≤ most_line_bytes }
         ensures ok { IfOk result (λ bytes. bytes.now ≡ without_return line.now) }
@@ -294,23 +296,54 @@ impl Lexer {
         Ok(without_return(line))
     }
 
+    // Takes one more physical line of the line that is open.
+    fn feed_next(&mut self, line: &[u8]) -> Result<Option<Line>, LexFault>
+        requires { IsSome self.old.line }
+        ensures ok { IfOk result (λ answer. fed self.old line.now ≡ Ok (answer, self.new)) }
+        ensures tokens { IfOk result (λ answer. IfSome answer (λ line. AreTokens line.tokens)) }
+        ensures err { IfErr result (λ fault. fault ≢ OutOfMemory → fed self.old line.now ≡ Err fault) }
+        ensures memory { IfErr result (λ fault. fault ≡ OutOfMemory → IsTrue (takes_memory self.old line.now)) }
+        ensures dropped { OnErr result (self.new ≡ dropped self.old) }
+    {
+        let Some(open) = self.take_open() else {
+            unreachable!();
+        };
+        let bytes = self.count_line(open.bytes, line)?;
+        let text = text_of(bytes)?;
+        self.feed_text(open, line.len(), text)
+    }
+
     // Takes the first physical line of a logical line, or a directive.
-    fn feed_first(
+    fn feed_first(&mut self, line: &[u8]) -> Result<Option<Line>, LexFault>
+        requires { self.old.line ≡ None }
+        ensures ok { IfOk result (λ answer. fed self.old line.now ≡ Ok (answer, self.new)) }
+        ensures tokens { IfOk result (λ answer. IfSome answer (λ line. AreTokens line.tokens)) }
+        ensures err { IfErr result (λ fault. fault ≢ OutOfMemory → fed self.old line.now ≡ Err fault) }
+        ensures memory { IfErr result (λ fault. fault ≡ OutOfMemory → IsTrue (takes_memory self.old line.now)) }
+        ensures dropped { OnErr result (self.new ≡ dropped self.old) }
+    {
+        let number = self.count + 1;
+        let bytes = self.count_line(0, line)?;
+        let text = text_of(bytes)?;
+        self.feed_apart(number, line.len(), text)
+    }
+
+    // Reads a first physical line, which is text: a directive, or one of a logical line.
+    fn feed_apart(
         &mut self,
-        logical: Open,
+        number: u32,
         bytes: usize,
         line: &str,
     ) -> Result<Option<Line>, LexFault>
         requires alone { self.old.line ≡ None }
-        requires sound { IsSoundOpen self.old.special logical }
-        requires short { logical.bytes + bytes ≤ most_line_bytes }
+        requires short { bytes ≤ most_line_bytes }
         ensures ok { IfOk result (λ answer.
-            fed_as self.old (added (line_in logical) line.now bytes) line.now (directive self.old.special line.now)
+            fed_as self.old (added (empty_line number) line.now bytes) line.now (directive self.old.special line.now)
             ≡ Ok (answer, self.new)) }
         ensures err { IfErr result (λ fault. fault ≢ OutOfMemory
-            → fed_as self.old (added (line_in logical) line.now bytes) line.now (directive self.old.special line.now) ≡ Err fault) }
+            → fed_as self.old (added (empty_line number) line.now bytes) line.now (directive self.old.special line.now) ≡ Err fault) }
         ensures memory { IfErr result (λ fault. fault ≡ OutOfMemory
-            → IsTrue (needs_memory (fed_as self.old (added (line_in logical) line.now bytes) line.now
+            → IsTrue (needs_memory (fed_as self.old (added (empty_line number) line.now bytes) line.now
             (directive self.old.special line.now)))) }
         ensures kept { OnErr result (self.new ≡ self.old) }
     {
@@ -320,8 +353,35 @@ impl Lexer {
                 Ok(None)
             }
             Some(Err(fault)) => Err(fault),
-            None => self.feed_text(logical, bytes, line),
+            None => self.feed_alone(number, bytes, line),
         }
+    }
+
+    // Reads the first physical line of a logical line, which is mostly the whole of it.
+    fn feed_alone(
+        &mut self,
+        number: u32,
+        bytes: usize,
+        line: &str,
+    ) -> Result<Option<Line>, LexFault>
+        requires { bytes ≤ most_line_bytes }
+        ensures ok { IfOk result (λ answer. answer_in self.old (added (empty_line number) line.now bytes) line.now ≡ Ok (answer, self.new)) }
+        ensures err { IfErr result (λ fault. fault ≢ OutOfMemory
+            → answer_in self.old (added (empty_line number) line.now bytes) line.now ≡ Err fault) }
+        ensures memory { IfErr result (λ fault. fault ≡ OutOfMemory
+            → IsTrue (needs_memory (answer_in self.old (added (empty_line number) line.now bytes) line.now))) }
+        ensures kept { OnErr result (self.new ≡ self.old) }
+    {
+        let mut scan = Scan::new(self.alloc);
+        scan.take_line(self.special, line)?;
+        if !scan.goes_on() {
+            let tokens = scan.into_tokens()?;
+            return Ok(line_of(number, tokens));
+        }
+        let mut logical = Open::new(self.alloc, number, scan);
+        logical.keep(self.alloc, bytes, line.as_bytes())?;
+        self.open = Some(logical);
+        Ok(None)
     }
 
     // Reads one more physical line of a logical line.
