@@ -200,11 +200,21 @@ kept next o mode.SymbolInText false partial tokens f = cc
 kept next o mode.Comment true partial tokens f = cc
 kept next o mode.Comment false partial tokens f = cc
 
+-- where a comment stands at the end, it makes no difference what the line ends with
+ended_alike : (next : LexerState) (o : OpenLine) (m : Mode) (a b : Bool) (partial : List ℕ) (tokens : List Token) → (is_continued m ≡ true → a ≡ b)
+    → answer_to next o b (ended m partial tokens) ≡ answer_to next o a (ended m partial tokens)
+ended_alike next o mode.Plain a b partial tokens e = rw (e refl) refl
+ended_alike next o mode.Symbol a b partial tokens e = rw (e refl) refl
+ended_alike next o mode.Text a b partial tokens e = rw (e refl) refl
+ended_alike next o mode.SymbolInText a b partial tokens e = rw (e refl) refl
+ended_alike next o mode.Comment a b partial tokens e = refl
+
 -- the answer by the scan after the line
 answer_by : (next : LexerState) (o : OpenLine) (s : Scan) (line : List ℕ) (bytes : ℕ) (scan : Scan) → ReadsLines next.special o.lines s → TakesLine next.special s (chars line) scan
     → answer_in next (added o line bytes) line ≡ answer_to next (added o line bytes) scan.escaped (ended scan.mode scan.partial scan.tokens)
 answer_by next o s line bytes scan h t =
-    rw (text_read next.special o s line scan h t, ← t.ends) refl
+    rw (text_read next.special o s line scan h t)
+    (ended_alike next (added o line bytes) scan.mode scan.escaped (is_joined next.special.escape (chars line)) scan.partial scan.tokens t.ends)
 
 -- a line that ends its logical line
 pub text_ends : (next : LexerState) (o : OpenLine) (s : Scan) (line : List ℕ) (bytes : ℕ) (scan : Scan) (tokens : List Token) → ReadsLines next.special o.lines s → TakesLine next.special s (chars line) scan

@@ -15,3 +15,4 @@ pub mod CharacterLemmas
 pub mod HeldText
 pub mod NameLemmas
 pub mod NameTests
+pub mod RunLemmas

@@ -1,11 +1,15 @@
 -- A scan over the characters of a physical line.
-use Rattle.std.proofs.Common.{◌≡◌, ◌≢◌, ℕ, ◌+◌, ◌<◌, ◌≤◌, ◌==◌, Bool, true, false, List, [], ◌∷◌, ◌++◌, length, drop, get_or, refl, ap, sym, ◌∙◌}
-use Rattle.std.proofs.lemmas.List.{drop_more, drop_all}
+use Rattle.std.proofs.Common.{◌≡◌, ◌≢◌, ℕ, ◌==◌, Bool, true, false, List, [], ◌∷◌, ◌++◌, length, chars, ◌⊎◌, inl, inr, refl, ap, sym, ◌∙◌, arith}
+use Rattle.std.proofs.lemmas.Bool.Decides.{nat_tests}
+use Rattle.std.proofs.lemmas.Str.{chars-nil}
 use Rattle.coll_lex.specs.Marked.{Mark, Plain, Literal, marks, ends_escaped}
-use Rattle.coll_lex.specs.Scanning.{reading_left, TakesMark, Refuses, TakesCharacter, RefusesCharacter, TakesLine, RefusesLine, Gathers, GathersCharacter, GathersLine}
+use Rattle.coll_lex.specs.Scanning.{reading_left, TakesMark, Refuses, TakesCharacter, RefusesCharacter, TakesPart, RefusesPart, GathersPart}
+use Rattle.coll_lex.specs.Scanning.{is_continued, TakesLine, Gathers, GathersCharacter}
 use Rattle.coll_lex.specs.declared.tokens.Chars.{Chars}
 use Rattle.coll_lex.specs.declared.faults.LexFault.{LexFault}
 use Rattle.coll_lex.specs.declared.scanning.Scan.{Scan}
+use Rattle.coll_lex.specs.declared.scanning.Mode.{Mode}
+use Rattle.coll_lex.specs.declared.scanning.Mode.TheVariants as mode
 use Rattle.coll_lex.proofs.ScanRows.{differs, equals}
 
 -- one character, by whether it is escaped, an escape character, or another
@@ -52,49 +56,58 @@ plain_gathers special old c e f t =
     let not : (c == special.escape) ≡ false = differs c special.escape f in
     record { reads = λ cs ms. rw (e, not) (t.reads (marks special.escape false cs ++ ms)) }
 
--- a scan has taken the first characters of a line
-pub record TakesPrefix (special : Chars) (old : Scan) (line : List ℕ) (n : ℕ) (new : Scan) : Type 0 where
-  pub reads : (ms : List Mark) → reading_left special.comment old (marks special.escape false line ++ ms) ≡ reading_left special.comment new (marks special.escape new.escaped (drop n line) ++ ms)
-  pub ends : ends_escaped special.escape false line ≡ ends_escaped special.escape new.escaped (drop n line)
+-- one character is a part
 
-pub prefix_none : (special : Chars) (s : Scan) (line : List ℕ) → s.escaped ≡ false → TakesPrefix special s line 0 s
-prefix_none special s line e = record { reads = λ ms. rw e refl; ends = rw e refl }
+pub character_taken : (special : Chars) (old new : Scan) (text rest : List ℕ) (c : ℕ) → chars text ≡ c ∷ chars rest → TakesCharacter special old c new → TakesPart special old text new rest
+character_taken special old new text rest c e t = record { reads = λ ms. rw e (t.reads (chars rest) ms); ends = inl (rw e (t.ends (chars rest))) }
 
--- where the next character stands
-at_prefix : (line : List ℕ) (n c : ℕ) → (n < length line) × (c ≡ get_or line n c) → drop n line ≡ c ∷ drop (n + 1) line
-at_prefix line n c h = drop_more line n c h.0 ∙ ap (λ x. x ∷ drop (n + 1) line) (sym h.1)
+pub character_refused : (special : Chars) (old : Scan) (text rest : List ℕ) (c : ℕ) (fault : LexFault) → chars text ≡ c ∷ chars rest → RefusesCharacter special old c fault
+    → RefusesPart special old text fault
+character_refused special old text rest c fault e t = record { stops = λ ms. rw e (t.stops (chars rest) ms) }
 
-pub prefix_more : (special : Chars) (old mid new : Scan) (line : List ℕ) (n c : ℕ) → TakesPrefix special old line n mid → (n < length line) × (c ≡ get_or line n c) → TakesCharacter special mid c new
-    → TakesPrefix special old line (n + 1) new
-prefix_more special old mid new line n c f h t = record {
-  reads = λ ms. f.reads ms ∙ (rw (at_prefix line n c h) (t.reads (drop (n + 1) line) ms));
-  ends = f.ends ∙ (rw (at_prefix line n c h) (t.ends (drop (n + 1) line)));
+pub character_gathers : (special : Chars) (old : Scan) (text rest : List ℕ) (c : ℕ) → chars text ≡ c ∷ chars rest → GathersCharacter special old c → GathersPart special old text
+character_gathers special old text rest c e t = record { reads = λ ms. rw e (t.reads (chars rest) ms) }
+
+-- parts, one after another
+
+-- past a part that leaves something
+later_ends : {A B : Type 0} (mid : List ℕ) → A ⊎ (B × (mid ≡ [])) → (length mid == 0) ≡ false → A
+later_ends mid (inl a) e = a
+later_ends [] (inr b) e = absurd (cc)
+later_ends (x ∷ xs) (inr b) e = absurd (cc)
+
+pub joined_ends : {a b c : Bool} {P : Type 0} → a ≡ b → (b ≡ c) ⊎ P → (a ≡ c) ⊎ P
+joined_ends e (inl f) = inl (e ∙ f)
+joined_ends e (inr p) = inr p
+
+pub part_more : (special : Chars) (old mid new : Scan) (text left rest : List ℕ) → TakesPart special old text mid left → (length left == 0) ≡ false → TakesPart special mid left new rest
+    → TakesPart special old text new rest
+part_more special old mid new text left rest f some t = record {
+  reads = λ ms. f.reads ms ∙ t.reads ms;
+  ends = joined_ends (later_ends left f.ends some) t.ends;
 }
 
-pub prefix_refused : (special : Chars) (old mid : Scan) (line : List ℕ) (n c : ℕ) (fault : LexFault) → TakesPrefix special old line n mid → (n < length line) × (c ≡ get_or line n c)
-    → RefusesCharacter special mid c fault → RefusesLine special old line fault
-prefix_refused special old mid line n c fault f h t = record {
-  stops = λ ms. rw (f.reads ms, at_prefix line n c h) (t.stops (drop (n + 1) line) ms);
-}
-
-pub prefix_gathers : (special : Chars) (old mid : Scan) (line : List ℕ) (n c : ℕ) → TakesPrefix special old line n mid → (n < length line) × (c ≡ get_or line n c) → GathersCharacter special mid c
-    → GathersLine special old line
-prefix_gathers special old mid line n c f h t = record {
-  reads = λ ms. rw (f.reads ms, at_prefix line n c h) (t.reads (drop (n + 1) line) ms);
-}
-
-none_marked : (escape : ℕ) (escaped : Bool) (line : List ℕ) (ms : List Mark) → line ≡ [] → marks escape escaped line ++ ms ≡ ms
+none_left : (escape : ℕ) (escaped : Bool) (rest : List ℕ) (ms : List Mark) → (length rest == 0) ≡ true → marks escape escaped (chars rest) ++ ms ≡ ms
 unfolding marks
-none_marked escape escaped line ms e = rw e refl
+none_left escape escaped [] ms e = rw chars-nil refl
+none_left escape escaped (c ∷ cs) ms e = absurd (grind (arith, nat_tests))
 
-none_ends : (escape : ℕ) (escaped : Bool) (line : List ℕ) → line ≡ [] → ends_escaped escape escaped line ≡ escaped
+none_ends : (escape : ℕ) (escaped : Bool) (rest : List ℕ) → (length rest == 0) ≡ true → ends_escaped escape escaped (chars rest) ≡ escaped
 unfolding ends_escaped
-none_ends escape escaped line e = rw e refl
+none_ends escape escaped [] e = rw chars-nil refl
+none_ends escape escaped (c ∷ cs) e = absurd (grind (arith, nat_tests))
 
-pub prefix_all : (special : Chars) (old new : Scan) (line : List ℕ) (n : ℕ) → TakesPrefix special old line n new → length line ≤ n → TakesLine special old line new
-prefix_all special old new line n f h =
-    let none = drop_all n line h in
-    record {
-      reads = λ ms. f.reads ms ∙ ap (reading_left special.comment new) (none_marked special.escape new.escaped (drop n line) ms none);
-      ends = sym (f.ends ∙ none_ends special.escape new.escaped (drop n line) none);
-    }
+ends_there : (m : Mode) (P : Type 0) {a b : Bool} → (a ≡ b) ⊎ ((m ≡ mode.Comment) × P) → is_continued m ≡ true → b ≡ a
+ends_there m P (inl e) f = sym e
+ends_there mode.Plain P (inr h) f = let e = h.0 in absurd (cc)
+ends_there mode.Symbol P (inr h) f = let e = h.0 in absurd (cc)
+ends_there mode.Text P (inr h) f = let e = h.0 in absurd (cc)
+ends_there mode.SymbolInText P (inr h) f = let e = h.0 in absurd (cc)
+ends_there mode.Comment P (inr h) f = cc
+
+-- past the last part of a line
+pub part_all : (special : Chars) (old new : Scan) (line rest : List ℕ) → old.escaped ≡ false → TakesPart special old line new rest → (length rest == 0) ≡ true → TakesLine special old (chars line) new
+part_all special old new line rest e f none = record {
+  reads = λ ms. rw (← e) (f.reads ms ∙ ap (reading_left special.comment new) (none_left special.escape new.escaped rest ms none));
+  ends = λ g. sym (none_ends special.escape new.escaped rest none) ∙ rw (← e) (ends_there new.mode _ f.ends g);
+}

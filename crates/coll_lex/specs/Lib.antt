@@ -12,6 +12,7 @@ pub mod LogicalLines
 pub mod Marked
 pub mod Names
 pub mod ReadingBack
+pub mod Runs
 pub mod Scanning
 pub mod Spelling
 pub mod Tokens

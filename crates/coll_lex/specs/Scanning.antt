@@ -1,7 +1,7 @@
 -- What is left to read once a scan has come so far. The state of a scan is private: these words tie it to the
 -- definition of tokens, and only the scan's own contracts cite them.
 use Rattle.std.specs.Prelude.{◌≡◌, ℕ, zero, suc, ◌<◌, Bool, true, false, ◌&&◌, List, [], ◌∷◌}
-use Rattle.std.specs.Prelude.{◌++◌, length, Option, Some, None, Result, Ok, Err}
+use Rattle.std.specs.Prelude.{◌++◌, ◌⊎◌, length, chars, Option, Some, None, Result, Ok, Err}
 use Rattle.std.specs.declared.alloc.Global.{Global}
 use Rattle.coll_lex.specs.Marked.{Mark, marks, ends_escaped}
 use Rattle.coll_lex.specs.Tokens.{Atom, Bracketed, Unclosed, before_close, atoms, Stop, AtFault, AtComment, AtEnd, InSymbol}
@@ -110,11 +110,36 @@ pub record GathersCharacter (special : Chars) (old : Scan) (c : ℕ) : Type 0 wh
   pub reads : (cs : List ℕ) (ms : List Mark) → gathers (reading_left special.comment old (marks special.escape old.escaped (c ∷ cs) ++ ms))
       ≡ true
 
+-- a comment isn't continued
+abbrev pub is_continued : Mode → Bool
+is_continued mode.Plain = true
+is_continued mode.Symbol = true
+is_continued mode.Text = true
+is_continued mode.SymbolInText = true
+is_continued mode.Comment = false
+
+-- a scan takes a part off the bytes that are left of a physical line; where a comment has begun, it may take all of them
+pub record TakesPart (special : Chars) (old : Scan) (text : List ℕ) (new : Scan) (rest : List ℕ) : Type 0 where
+  pub reads : (ms : List Mark) → reading_left special.comment old (marks special.escape old.escaped (chars text) ++ ms)
+      ≡ reading_left special.comment new (marks special.escape new.escaped (chars rest) ++ ms)
+  pub ends : (ends_escaped special.escape old.escaped (chars text) ≡ ends_escaped special.escape new.escaped (chars rest))
+      ⊎ ((new.mode ≡ mode.Comment) × (rest ≡ []))
+
+-- the reading stops in these bytes
+pub record RefusesPart (special : Chars) (old : Scan) (text : List ℕ) (fault : LexFault) : Type 0 where
+  pub stops : (ms : List Mark) → (reading_left special.comment old (marks special.escape old.escaped (chars text) ++ ms)).stop
+      ≡ AtFault fault
+
+-- whatever follows these bytes, the reading has a token or is cut short
+pub record GathersPart (special : Chars) (old : Scan) (text : List ℕ) : Type 0 where
+  pub reads : (ms : List Mark) → gathers (reading_left special.comment old (marks special.escape old.escaped (chars text) ++ ms))
+      ≡ true
+
 -- a scan takes a physical line
 pub record TakesLine (special : Chars) (old : Scan) (line : List ℕ) (new : Scan) : Type 0 where
   pub reads : (ms : List Mark) → reading_left special.comment old (marks special.escape false line ++ ms)
       ≡ reading_left special.comment new ms
-  pub ends : new.escaped ≡ ends_escaped special.escape false line
+  pub ends : is_continued new.mode ≡ true → new.escaped ≡ ends_escaped special.escape false line
 
 -- the reading stops in this physical line
 pub record RefusesLine (special : Chars) (old : Scan) (line : List ℕ) (fault : LexFault) : Type 0 where
@@ -128,14 +153,6 @@ pub record GathersLine (special : Chars) (old : Scan) (line : List ℕ) : Type 0
 pub record IsInWord (s : Scan) : Type 0 where
   pub outside : s.mode ≡ mode.Plain
   pub begun : 0 < length s.partial
-
--- a comment isn't continued
-abbrev pub is_continued : Mode → Bool
-is_continued mode.Plain = true
-is_continued mode.Symbol = true
-is_continued mode.Text = true
-is_continued mode.SymbolInText = true
-is_continued mode.Comment = false
 
 -- the physical line that was scanned last joins the next one
 abbrev pub goes_on : Scan → Bool

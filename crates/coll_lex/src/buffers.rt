@@ -172,6 +172,16 @@ impl Gathered {
         Ok(())
     }
 
+    /// Puts a text at the end. A refused growth leaves the text as it was.
+    pub(crate) fn push_str(&mut self, more: &str) -> Result<(), AllocError>
+        ensures ok { OnOk result (self.new ≡ self.old ++ chars more.now) }
+        ensures err { OnErr result (self.new ≡ self.old) }
+    {
+        self.begin()?;
+        self.text.push_str(more)?;
+        Ok(())
+    }
+
     /// Begins another text in the same room.
     pub(crate) fn clear(&mut self)
         ensures { self.new ≡ [] }
@@ -262,6 +272,7 @@ impl<X: Clone> Clone for ListBuf<X> {
 
 impl<X: Drop> ListBuf<X> {
     /// Puts a member at the end. A refused growth drops it, and leaves the list as it was.
+    #[inline(always)]
     pub(crate) fn push(&mut self, item: X) -> Result<(), AllocError>
         ensures ok { OnOk result (self.new ≡ self.old ++ item ∷ []) }
         ensures err { OnErr result (self.new ≡ self.old) }

@@ -1,16 +1,19 @@
-//! The scan of a logical line: one pass over its characters, physical line by physical line, in five modes.
+//! The scan of a logical line: one pass over it, physical line by physical line, in five modes.
 //!
-//! The scan has one state, `Scan`, and one move, `take`, which first settles whether a character is escaped and
-//! then hands it to the mode. The modules below have the moves of the modes: `word` outside symbols and strings,
-//! `symbol` inside symbols, `text` inside strings. A new kind of token needs a move in one of them, and perhaps a
-//! mode. No contract above this module sees the state: each move is proved to keep what is left to read
-//! (`reading_left` in `specs/Scanning.antt`), so a mode with a new field needs its case there.
+//! The scan has one state, `Scan`. It reads a line part by part: `parts` takes whole symbols, words and comments as slices,
+//! which `runs` finds by their bytes, and what is none of these character by character. The move for a character is `take`,
+//! which first settles whether it is escaped and then hands it to the mode. The other modules below have the moves of the
+//! modes: `word` outside symbols and strings, `symbol` inside symbols, `text` inside strings. A new kind of token needs a
+//! move in one of them, and perhaps a mode. No contract above this module sees the state: each move is proved to keep what
+//! is left to read (`reading_left` in `specs/Scanning.antt`), so a mode with a new field needs its case there.
 
-ghost use Rattle.std.specs.Prelude.{◌≡◌, ◌≢◌, ℕ, [], chars, OnOk, IfOk, IfErr, false, IfErr};
+ghost use Rattle.std.specs.Prelude.{◌≡◌, ◌≢◌, ◌<◌, ℕ, [], length, chars, OnOk, IfOk, IfErr, false, IfErr};
 ghost use Rattle.coll_lex.specs.Marked.{Plain, Literal};
 ghost use Rattle.coll_lex.specs.Tokens.{is_constant};
 ghost use Rattle.coll_lex.specs.declared.faults.LexFault.TheVariants.{OutOfMemory};
 
+mod parts;
+mod runs;
 mod symbol;
 mod text;
 mod word;
@@ -59,6 +62,7 @@ fn is_constant(c: char) -> bool
 
 impl Scan {
     ghost use Rattle.coll_lex.specs.Scanning.{fresh, goes_on, TakesMark, Refuses, TakesCharacter, RefusesCharacter, TakesLine};
+    ghost use Rattle.coll_lex.specs.Scanning.{TakesPart, RefusesPart, GathersPart};
     ghost use Rattle.coll_lex.specs.Scanning.{RefusesLine, Gathers, GathersCharacter, GathersLine, IsInWord, ending};
 
     /// The scan at the beginning of a logical line. It takes no memory.
@@ -82,8 +86,9 @@ impl Scan {
         ensures err { IfErr result (λ fault. fault ≢ OutOfMemory → RefusesLine special self.old (chars line.now) fault) }
         ensures memory { IfErr result (λ fault. fault ≡ OutOfMemory → GathersLine special self.old (chars line.now)) }
     {
-        for c in line.chars() {
-            self.take(special, c)?;
+        let mut rest = line;
+        'parts: while !rest.is_empty() {
+            rest = self.take_part(special, rest)?;
         }
         Ok(())
     }
@@ -104,6 +109,7 @@ impl Scan {
     }
 
     /// Ends the line: its tokens, unless a symbol or a string is open.
+    #[inline(always)]
     pub(crate) fn into_tokens(mut self) -> Result<ListBuf<Token>, LexFault>
         ensures ok { IfOk result (λ tokens. ending self ≡ Ok tokens) }
         ensures err { IfErr result (λ fault. fault ≢ OutOfMemory → ending self ≡ Err fault) }
@@ -119,6 +125,23 @@ impl Scan {
             Mode::SymbolInText => Err(LexFault::OpenSymbol),
             Mode::Text => Err(LexFault::OpenString),
         }
+    }
+
+    // Reads one character of a text, and lends what follows it.
+    #[inline(always)]
+    fn take_one<'a>(&mut self, special: Chars, text: &'a str) -> Result<&'a str, LexFault>
+        requires { 0 < length text.now }
+        ensures ok { IfOk result (λ rest. TakesPart special self.old text.now self.new rest.now) }
+        ensures shorter { IfOk result (λ rest. length rest.now < length text.now) }
+        ensures err { IfErr result (λ fault. fault ≢ OutOfMemory → RefusesPart special self.old text.now fault) }
+        ensures memory { IfErr result (λ fault. fault ≡ OutOfMemory → GathersPart special self.old text.now) }
+    {
+        let mut letters = text.chars();
+        let Some(c) = letters.next() else {
+            return Ok(text);
+        };
+        self.take(special, c)?;
+        Ok(letters.as_str())
     }
 
     // Reads one character.

@@ -2,18 +2,21 @@
 //!
 //! What stands between the brackets is decided after unescaping, by the characters alone.
 
-ghost use Rattle.std.specs.Prelude.{◌≡◌, ◌≢◌, ℕ, [], chars, Ok, Err, OnOk, IfOk, IfErr};
+ghost use Rattle.std.specs.Prelude.{◌≡◌, ◌≢◌, ◌<◌, ℕ, [], true, length, chars, Ok, Err, OnOk, IfOk, IfErr};
+ghost use Rattle.std.specs.List.{list_all};
+ghost use Rattle.coll_lex.specs.Runs.{is_graphic};
 ghost use Rattle.coll_lex.specs.Marked.{Plain};
 ghost use Rattle.coll_lex.specs.Tokens.{symbol_of, token_of};
 ghost use Rattle.coll_lex.specs.declared.faults.LexFault.TheVariants.{OutOfMemory};
 
 use super::{Mode, Scan};
+use crate::limits::MOST_NAME_CHARS;
 use crate::names::{code_point, has_name_chars};
 use crate::{LexFault, Piece, TextBuf, Token};
 use std::alloc::Global;
 
-// What a symbol stands for, by what is between its brackets.
-fn piece_of(alloc: Global, name: &str) -> Result<Piece, LexFault>
+/// What a symbol stands for, by what is between its brackets.
+pub(super) fn piece_of(alloc: Global, name: &str) -> Result<Piece, LexFault>
     ensures ok { IfOk result (λ piece. symbol_of (chars name.now) ≡ Ok piece) }
     ensures err { IfErr result (λ fault. fault ≢ OutOfMemory → symbol_of (chars name.now) ≡ Err fault) }
 {
@@ -33,8 +36,30 @@ fn piece_of(alloc: Global, name: &str) -> Result<Piece, LexFault>
     Ok(Piece::Name(name))
 }
 
-// The token of a symbol outside strings.
-fn token_of(piece: Piece) -> Token
+/// What a symbol stands for, by what is between its brackets: some ASCII, with no blank and no control character. As each byte
+/// is a character that a name may have, they aren't looked at again, unless they spell a code point.
+#[inline(always)]
+pub(super) fn plain_piece(alloc: Global, name: &str) -> Result<Piece, LexFault>
+    requires some { 0 < length name.now }
+    requires graphic { list_all is_graphic name.now ≡ true }
+    ensures ok { IfOk result (λ piece. symbol_of (chars name.now) ≡ Ok piece) }
+    ensures err { IfErr result (λ fault. fault ≢ OutOfMemory → symbol_of (chars name.now) ≡ Err fault) }
+{
+    if let Some(number) = code_point(name) {
+        let Some(c) = char::from_u32(number) else {
+            return Err(LexFault::BadCodePoint);
+        };
+        return Ok(Piece::Char(c));
+    }
+    if name.len() > MOST_NAME_CHARS {
+        return Err(LexFault::BadName);
+    }
+    let name = TextBuf::copied(alloc, name)?;
+    Ok(Piece::Name(name))
+}
+
+/// The token of a symbol outside strings.
+pub(super) fn token_of(piece: Piece) -> Token
     ensures { result ≡ token_of piece }
 {
     match piece {

@@ -66,6 +66,7 @@ impl Scan {
     }
 
     /// Makes a token of the word so far, if one has begun.
+    #[inline(always)]
     pub(super) fn end_word(&mut self) -> Result<(), AllocError>
         ensures ok { OnOk result
             (self.new ≡ record self.old { partial = []; tokens = self.old.tokens ++ word_token self.old.partial }) }
@@ -74,6 +75,16 @@ impl Scan {
         if self.partial.is_empty() {
             return Ok(());
         }
+        self.make_word()?;
+        Ok(())
+    }
+
+    // Makes a token of the word so far, which has begun.
+    fn make_word(&mut self) -> Result<(), AllocError>
+        requires { 0 < length self.old.partial }
+        ensures { OnOk result
+            (self.new ≡ record self.old { partial = []; tokens = self.old.tokens ++ word_token self.old.partial }) }
+    {
         let word = TextBuf::copied(self.alloc, self.partial.get())?;
         self.tokens.push(Token::Word(word))?;
         self.partial.clear();
