@@ -5,3 +5,4 @@ pub mod NameSets
 mod NodeLookUps
 mod PairedNodes
 pub mod Sameness
+mod WordHashing

@@ -5,3 +5,4 @@ pub mod NameKeys
 pub mod NamePlaces
 pub mod NodeLookUps
 pub mod NodeMaps
+pub mod WordHashing

@@ -6,8 +6,8 @@
 ghost use Rattle.std.specs.Prelude.{◌≡◌, [], OnOk, OnErr};
 ghost use Rattle.coll_syntax.specs.Identifier.{has_id};
 
-use crate::HashKeys;
 use crate::names::Names;
+use crate::{HashKeys, WordKeys};
 use coll_syntax::Id;
 use indexmap::IndexSet;
 use std::alloc::{AllocError, Global};
@@ -17,7 +17,7 @@ use std::marker::Model;
 #[derive(Drop)]
 pub struct IdSet {
     names: Names,
-    chars: IndexSet<char, HashKeys>,
+    chars: IndexSet<char, WordKeys>,
     undefined: bool,
 }
 
@@ -40,7 +40,7 @@ impl IdSet {
     {
         IdSet {
             names: Names::new(alloc, keys),
-            chars: IndexSet::with_hasher(alloc, keys),
+            chars: IndexSet::with_hasher(alloc, WordKeys::new(keys)),
             undefined: false,
         }
     }

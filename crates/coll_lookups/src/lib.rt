@@ -5,6 +5,7 @@
 //! without memory. A way through the crate, each file with its definitions in `specs/`:
 //!
 //! - `hash_keys`: keys, under which no text can choose names that are slow to find (`HashKeys`);
+//! - `word_hashing`: a hasher for short keys under keys made of these, a word at a time (`WordHashing`);
 //! - `name_keys` and `node_names`: a name as a key, and which node a name leads to (`NameKeys`, `NodeLookUps`, `NodeMaps`);
 //! - `node_ids`: which node an identifier leads to, a name or a character (`NodeLookUps`, `NodeMaps`);
 //! - `entry_numbers`: a number for each node (`EntryNumbers`); `name_places`: names with the numbers of their nodes (`NamePlaces`);
@@ -19,6 +20,7 @@ mod name_places;
 mod names;
 mod node_ids;
 mod node_names;
+mod word_hashing;
 
 pub use entry_numbers::EntryNumbers;
 pub use hash_keys::HashKeys;
@@ -26,3 +28,4 @@ pub use id_sets::IdSet;
 pub use name_places::NamePlaces;
 pub use node_ids::NodeIds;
 pub use node_names::NodeNames;
+pub use word_hashing::{WordHasher, WordKeys};

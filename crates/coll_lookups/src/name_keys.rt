@@ -1,15 +1,15 @@
 //! A name as the key of a look-up by hash.
 //!
-//! A `NameKey` is compared and hashed by the bytes of its name, and so it is found by a `&str` too (`specs/NameKeys.antt`). A name
-//! that lies in its value lies in the key itself, so that most keys take no memory. What is hashed may change, for both alike.
+//! A `NameKey` is compared and hashed by the bytes of its name, and so it is found by a `NameText` too (`specs/NameKeys.antt`). A
+//! name that lies in its value lies in the key itself, so that most keys take no memory. A name is hashed by one write of its bytes,
+//! with nothing behind them: no key has a part that could follow. What is hashed may change, for both alike.
 
 ghost use Rattle.std.specs.Prelude.{◌≡◌, IfOk};
 ghost use Rattle.std.specs.Cmp.Lexicographic.{bytes_decides, nat_list_eq_equiv};
 ghost use Rattle.std.specs.Cmp.{on_equiv, on_per, partial_equiv_from_equiv};
-ghost use Rattle.std.specs.Hash as fed;
 ghost use Rattle.std.specs.Str.{bytes_eq};
 ghost use Rattle.std.proofs.Common.{ap};
-ghost use Rattle.coll_lookups.specs.NameKeys.{bytes_of, same_bytes, IsReadBack};
+ghost use Rattle.coll_lookups.specs.NameKeys.{bytes_of, one_write, same_bytes, text_bytes, IsReadBack};
 
 use coll_lex::TextBuf;
 use indexmap::Equivalent;
@@ -58,23 +58,54 @@ impl Eq for NameKey {
 }
 
 impl Hash for NameKey {
-    ghost hash_input = { λ key. fed.str (bytes_of key) };
+    ghost hash_input = { λ key. one_write (bytes_of key) };
 
-    ghost respects_eq = { λ a b same. ap fed.str ((bytes_decides (bytes_of a) (bytes_of b)).0 same) };
+    ghost respects_eq = { λ a b same. ap one_write ((bytes_decides (bytes_of a) (bytes_of b)).0 same) };
 
     fn hash<H: Hasher>(&self, state: &mut H) {
-        self.name.get().hash(state);
+        state.write(self.name.get().as_bytes());
     }
 }
 
-impl Equivalent<NameKey> for &str {
-    ghost equivalent = { λ text key. bytes_eq text.now (bytes_of key) };
+/// The text of a name, by which its key is found.
+#[derive(Clone, Copy)]
+pub(crate) struct NameText<'a> {
+    /// The text.
+    pub(crate) text: &'a str,
+}
 
-    ghost respects_hash = { λ text key same. ap fed.str ((bytes_decides text.now (bytes_of key)).0 same) };
+impl<'a> PartialEq for NameText<'a> {
+    ghost eq = { λ a b. bytes_eq a.text.now b.text.now };
 
-    ghost respects_eq = { λ text a b. nat_list_eq_equiv.congr text.now (bytes_of a) (bytes_of b) };
+    ghost laws = { on_per text_bytes (partial_equiv_from_equiv nat_list_eq_equiv) };
+
+    fn eq(&self, other: &NameText<'a>) -> bool {
+        self.text == other.text
+    }
+}
+
+impl<'a> Eq for NameText<'a> {
+    ghost laws = { on_equiv text_bytes nat_list_eq_equiv };
+}
+
+impl<'a> Hash for NameText<'a> {
+    ghost hash_input = { λ text. one_write (text_bytes text) };
+
+    ghost respects_eq = { λ a b same. ap one_write ((bytes_decides (text_bytes a) (text_bytes b)).0 same) };
+
+    fn hash<H: Hasher>(&self, state: &mut H) {
+        state.write(self.text.as_bytes());
+    }
+}
+
+impl<'a> Equivalent<NameKey> for NameText<'a> {
+    ghost equivalent = { λ text key. bytes_eq text.text.now (bytes_of key) };
+
+    ghost respects_hash = { λ text key same. ap one_write ((bytes_decides (text_bytes text) (bytes_of key)).0 same) };
+
+    ghost respects_eq = { λ text a b. nat_list_eq_equiv.congr (text_bytes text) (bytes_of a) (bytes_of b) };
 
     fn equivalent(&self, key: &NameKey) -> bool {
-        *self == key.name.get()
+        self.text == key.name.get()
     }
 }

@@ -6,7 +6,7 @@
 ghost use Rattle.std.specs.Prelude.{◌≡◌, [], OnOk, OnErr, chars};
 ghost use Rattle.coll_syntax.specs.Identifier.{has_name};
 
-use crate::HashKeys;
+use crate::{HashKeys, WordKeys};
 use coll_lex::TextBuf;
 use indexmap::IndexSet;
 use std::alloc::{AllocError, Global};
@@ -15,7 +15,7 @@ use std::marker::Model;
 /// Names, each once.
 #[derive(Drop)]
 pub struct Names {
-    names: IndexSet<String, HashKeys>,
+    names: IndexSet<String, WordKeys>,
     alloc: Global,
 }
 
@@ -38,7 +38,7 @@ impl Names {
         ensures { result ≡ [] }
     {
         Names {
-            names: IndexSet::with_hasher(alloc, keys),
+            names: IndexSet::with_hasher(alloc, WordKeys::new(keys)),
             alloc,
         }
     }

@@ -5,8 +5,8 @@
 
 ghost use Rattle.std.specs.Prelude.{◌≡◌, true, IfOk, OnOk, OnErr};
 
-use crate::HashKeys;
 use crate::node_names::NodeNames;
+use crate::{HashKeys, WordKeys};
 use coll_lex::TextBuf;
 use coll_order::NodeId;
 use coll_syntax::Id;
@@ -18,7 +18,7 @@ use std::marker::Model;
 #[derive(Drop)]
 pub struct NodeIds {
     names: NodeNames,
-    characters: IndexMap<char, Option<NodeId>, HashKeys>,
+    characters: IndexMap<char, Option<NodeId>, WordKeys>,
     undefined: Option<NodeId>,
 }
 
@@ -42,7 +42,7 @@ impl NodeIds {
         let names = NodeNames::new(alloc, keys)?;
         Ok(NodeIds {
             names,
-            characters: IndexMap::with_hasher(alloc, keys),
+            characters: IndexMap::with_hasher(alloc, WordKeys::new(keys)),
             undefined: None,
         })
     }

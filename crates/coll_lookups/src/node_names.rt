@@ -11,8 +11,8 @@ ghost use Rattle.indexmap.specs.IndexSet.{insert_key};
 ghost use Rattle.coll_lookups.specs.NameKeys.{same_bytes};
 ghost use Rattle.coll_lookups.specs.NodeMaps.{node_put};
 
-use crate::HashKeys;
-use crate::name_keys::NameKey;
+use crate::name_keys::{NameKey, NameText};
+use crate::{HashKeys, WordKeys};
 use coll_lex::TextBuf;
 use coll_order::NodeId;
 use indexmap::IndexSet;
@@ -24,7 +24,7 @@ use std::rc::Rc;
 #[derive(Drop)]
 pub struct NodeNames {
     // The names, in the order in which they came in. Copies share them until one of them gets a further name.
-    names: Rc<IndexSet<NameKey, HashKeys>>,
+    names: Rc<IndexSet<NameKey, WordKeys>>,
     // The node that each of them leads to, if it does.
     nodes: Vec<Option<NodeId>>,
     // No name has more bytes. It isn't made less.
@@ -54,7 +54,7 @@ impl NodeNames {
     pub fn new(alloc: Global, keys: HashKeys) -> Result<NodeNames, AllocError>
         ensures { IfOk result (λ made. made ≡ []) }
     {
-        let names = Rc::new(alloc, IndexSet::with_hasher(alloc, keys))?;
+        let names = Rc::new(alloc, IndexSet::with_hasher(alloc, WordKeys::new(keys)))?;
         Ok(NodeNames {
             names,
             nodes: Vec::new(alloc),
@@ -65,7 +65,7 @@ impl NodeNames {
 
     /// The keys that names are looked up under.
     pub fn hash_keys(&self) -> HashKeys {
-        *self.names.hasher()
+        self.names.hasher().hash_keys()
     }
 
     /// Where it takes memory.
@@ -84,7 +84,7 @@ impl NodeNames {
     pub fn find_text(&self, name: &str) -> Option<NodeId>
         ensures { result ≡ node_named self.now (chars name.now) }
     {
-        match self.names.get_index_of(name) {
+        match self.names.get_index_of(NameText { text: name }) {
             Some(place) => self.nodes[place],
             None => None,
         }
@@ -115,7 +115,7 @@ impl NodeNames {
         ensures set { SetsName self.old self.new name.now node }
         ensures keys { KeepNameKeys self.old self.new }
     {
-        let Some(place) = self.names.get_index_of(name.get()) else {
+        let Some(place) = self.names.get_index_of(NameText { text: name.get() }) else {
             unreachable!();
         };
         self.nodes[place] = node;
@@ -163,7 +163,7 @@ impl NodeNames {
 
 // Puts a name behind all others, if it isn't there yet. Answers its place. Names that are shared are copied for one that is new,
 // and for no other.
-fn put_name(names: &mut Rc<IndexSet<NameKey, HashKeys>>, key: NameKey) -> Result<usize, AllocError>
+fn put_name(names: &mut Rc<IndexSet<NameKey, WordKeys>>, key: NameKey) -> Result<usize, AllocError>
     ensures place { IfOk result (λ place. place ≡ position_or_len (same_bytes key) names.old.value.keys) }
     ensures ok { OnOk result (names.new.value.keys ≡ insert_key same_bytes names.old.value.keys key) }
     ensures err { OnErr result (names.new.value.keys ≡ names.old.value.keys) }
@@ -179,7 +179,7 @@ fn put_name(names: &mut Rc<IndexSet<NameKey, HashKeys>>, key: NameKey) -> Result
 }
 
 // The same, with names of one's own from now on.
-fn put_apart(names: &mut Rc<IndexSet<NameKey, HashKeys>>, key: NameKey) -> Result<usize, AllocError>
+fn put_apart(names: &mut Rc<IndexSet<NameKey, WordKeys>>, key: NameKey) -> Result<usize, AllocError>
     ensures place { IfOk result (λ place. place ≡ position_or_len (same_bytes key) names.old.value.keys) }
     ensures ok { OnOk result (names.new.value.keys ≡ insert_key same_bytes names.old.value.keys key) }
     ensures err { OnErr result (names.new.value.keys ≡ names.old.value.keys) }
