@@ -39,9 +39,20 @@ pub fn is_word(token: &Token, spelling: &str) -> bool
     }
 }
 
-/// The keyword that a token spells, if it spells one.
+/// The keyword that a token spells, if it spells one. What isn't a word is compared with none.
 #[tactic(auto, unfolding(crate::specs::Keywords::keyword_of))]
 pub(crate) fn keyword_of(token: &Token) -> Option<Keyword>
+    ensures { result ≡ spelled_keyword token.now }
+{
+    match token {
+        Token::Word(_) => keyword_spelled(token),
+        _ => None,
+    }
+}
+
+// The keyword that a word spells, if it spells one.
+#[tactic(auto, unfolding(crate::specs::Keywords::keyword_of))]
+fn keyword_spelled(token: &Token) -> Option<Keyword>
     ensures { result ≡ spelled_keyword token.now }
 {
     if is_word(token, "collating-symbol") {
