@@ -3,7 +3,7 @@
 //! A `NodeIds` says which node an identifier leads to: a name by `NodeNames`, a character by a look-up of its own. An identifier
 //! that leads to none may stay as a key. A new kind of identifier is a look-up more.
 
-ghost use Rattle.std.specs.Prelude.{◌≡◌, true, IfOk, OnOk, OnErr};
+ghost use Rattle.std.specs.Prelude.{◌≡◌, true, not, Some, is_some, unwrap_or, IfOk, OnOk, OnErr};
 
 use crate::node_names::NodeNames;
 use crate::{HashKeys, WordKeys};
@@ -85,16 +85,49 @@ impl NodeIds {
         ensures keys { OnOk result (AddsIdKey self.old self.new id.now) }
         ensures err { OnErr result (self.new ≡ self.old) }
     {
+        self.replace(id, node)?;
+        Ok(())
+    }
+
+    /// Makes an identifier lead to a node, unless it leads to one. Answers whether it led to none: so one look-up both asks whether
+    /// it is there and puts it in. One that leads to a node takes memory as any other. Where memory is refused, nothing has changed.
+    pub fn put_free(&mut self, id: &Id, node: NodeId) -> Result<bool, AllocError>
+        ensures free { IfOk result (λ free. free ≡ not (is_some (node_with self.old id.now))) }
+        ensures ok { OnOk result (SetsId self.old self.new id.now (Some (unwrap_or (node_with self.old id.now) node))) }
+        ensures keys { OnOk result (AddsIdKey self.old self.new id.now) }
+        ensures err { OnErr result (self.new ≡ self.old) }
+    {
+        match self.replace(id, Some(node))? {
+            Some(led) => {
+                self.set(id, Some(led));
+                Ok(false)
+            }
+            None => Ok(true),
+        }
+    }
+
+    // Makes an identifier a key, and lead to a node, or to none. Answers the node that it led to.
+    fn replace(&mut self, id: &Id, node: Option<NodeId>) -> Result<Option<NodeId>, AllocError>
+        ensures ok { OnOk result (SetsId self.old self.new id.now node) }
+        ensures keys { OnOk result (AddsIdKey self.old self.new id.now) }
+        ensures led { IfOk result (λ led. led ≡ node_with self.old id.now) }
+        ensures err { OnErr result (self.new ≡ self.old) }
+    {
         match id {
             Id::Char(c) => {
-                self.characters.insert(*c, node)?;
+                let led = self.characters.insert(*c, node)?;
+                Ok(led.unwrap_or(None))
             }
             Id::Named(name) => {
-                self.names.put(name, node)?;
+                let led = self.names.put(name, node)?;
+                Ok(led)
             }
-            Id::Undefined => self.undefined = node,
+            Id::Undefined => {
+                let led = self.undefined;
+                self.undefined = node;
+                Ok(led)
+            }
         }
-        Ok(())
     }
 
     /// Makes an identifier that is a key lead to a node, or to none. It takes no memory.

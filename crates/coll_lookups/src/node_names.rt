@@ -4,7 +4,7 @@
 //! later without taking memory. Copies share the names until one of them gets a further name. How a name is found, and in which
 //! order names are kept, may change.
 
-ghost use Rattle.std.specs.Prelude.{◌≡◌, ◌<◌, ℕ, List, [], true, None, chars, length, slice_index_or};
+ghost use Rattle.std.specs.Prelude.{◌≡◌, ◌<◌, ℕ, List, [], true, not, Some, None, is_some, unwrap_or, chars, length, slice_index_or};
 ghost use Rattle.std.specs.Prelude.{vec_len, vec_capacity, IfOk, OnOk, OnErr};
 ghost use Rattle.std.specs.List.{position_or_len};
 ghost use Rattle.indexmap.specs.IndexSet.{insert_key};
@@ -158,6 +158,23 @@ impl NodeNames {
         let place = put_name(&mut self.names, key)?;
         self.longest = self.longest.max(name.get().len());
         Ok(put_node(&mut self.nodes, place, node))
+    }
+
+    /// Makes a name lead to a node, unless it leads to one. Answers whether it led to none. So one look-up both asks whether a name
+    /// is there and puts it in. A name that leads to a node takes memory as any other. Where memory is refused, nothing has changed.
+    pub fn put_free(&mut self, name: &TextBuf, node: NodeId) -> Result<bool, AllocError>
+        ensures free { IfOk result (λ free. free ≡ not (is_some (node_named self.old name.now))) }
+        ensures ok { OnOk result (SetsName self.old self.new name.now (Some (unwrap_or (node_named self.old name.now) node))) }
+        ensures keys { OnOk result (AddsNameKey self.old self.new name.now) }
+        ensures err { OnErr result (self.new ≡ self.old) }
+    {
+        match self.put(name, Some(node))? {
+            Some(led) => {
+                self.set(name, Some(led));
+                Ok(false)
+            }
+            None => Ok(true),
+        }
     }
 }
 
