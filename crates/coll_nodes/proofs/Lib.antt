@@ -9,6 +9,7 @@ pub mod ElementNodes
 pub mod EmptyRings
 pub mod EntryLemmas
 pub mod EntryMoves
+pub mod FreeNodes
 pub mod KeyedNodes
 pub mod LayoutLists
 pub mod LayoutMoves

@@ -1,5 +1,5 @@
 -- Nodes by their keys: what a node is found by, and what becomes of the look-ups.
-use Rattle.std.specs.Prelude.{◌≡◌, ℕ, true, cond, List, [], Option}
+use Rattle.std.specs.Prelude.{◌≡◌, ℕ, Bool, true, ◌&&◌, not, cond, is_some, List, [], Option, None, Some}
 use Rattle.std.specs.List.{list_any}
 use Rattle.coll_order.specs.declared.places.NodeId.{NodeId}
 use Rattle.coll_syntax.specs.Identifier.{same_name, same_id}
@@ -9,6 +9,8 @@ use Rattle.coll_nodes.specs.SoundBodies.{Finds, names_in, texts_in, section_name
 use Rattle.coll_nodes.specs.Table.{named}
 use Rattle.coll_nodes.specs.TableLayout.{TableLayout}
 use Rattle.coll_nodes.specs.declared.contents.Content.{Content}
+use Rattle.coll_nodes.specs.declared.contents.Content.TheVariants as content
+use Rattle.coll_nodes.specs.declared.declarations.Declaration.TheVariants as declaration
 use Rattle.coll_nodes.specs.declared.node_keys.NodeKeys.{NodeKeys}
 
 -- no key leads to a node
@@ -46,6 +48,16 @@ pub record LeadsAlike (old new : NodeKeys) : Type 0 where
   pub texts : LeadNamesAlike old.texts new.texts
   pub sections : LeadNamesAlike old.sections new.sections
   pub ids : LeadAlike old.placed new.placed
+
+-- nothing that a node is found by leads to a node
+abbrev pub leads_nowhere : NodeKeys → Content → Bool
+leads_nowhere keys (content.Declared (declaration.Symbol name)) = not (is_some (node_named keys.names name))
+leads_nowhere keys (content.Declared (declaration.Element name text)) =
+    not (is_some (node_named keys.names name)) && not (is_some (node_named keys.texts text))
+leads_nowhere keys (content.Declared (declaration.Equivalence name symbol)) = not (is_some (node_named keys.names name))
+leads_nowhere keys (content.Begun None ring) = true
+leads_nowhere keys (content.Begun (Some name) ring) = not (is_some (node_named keys.sections name))
+leads_nowhere keys (content.Placed entry) = not (is_some (node_with keys.placed entry.id))
 
 -- what a node is found by leads to this now, and each other key to where it led
 pub record SetsKeys (old new : NodeKeys) (it : Content) (node : Option NodeId) : Type 0 where

@@ -1,5 +1,5 @@
 -- A node that moves, stands, or gets other weights: what becomes of a layout, and when it may be.
-use Rattle.std.specs.Prelude.{◌≡◌, Bool, true, false, if◌then◌else◌, List, Option, Some, None, map}
+use Rattle.std.specs.Prelude.{◌≡◌, Bool, true, false, ◌&&◌, not, if◌then◌else◌, List, Option, Some, None, map}
 use Rattle.std.specs.List.{list_any}
 use Rattle.coll_order.specs.Layout.{place_from, rings_with, rings_without}
 use Rattle.coll_order.specs.Lists.{same_node}
@@ -10,7 +10,8 @@ use Rattle.coll_syntax.specs.declared.weights.Weight.{Weight}
 use Rattle.coll_nodes.specs.Bodies.{IsLooseNode, without_link}
 use Rattle.coll_nodes.specs.SoundBodies.{IsPlaceIn, IsEntryPlace, has_key, names_in, texts_in}
 use Rattle.coll_nodes.specs.SoundBodies.{section_names_in, rings_in, ids_in, same_ring}
-use Rattle.coll_nodes.specs.TableLayout.{TableLayout, MadeNode, content_of}
+use Rattle.coll_nodes.specs.Table.{has_text, is_declared, is_placed_in, name_of, text_of}
+use Rattle.coll_nodes.specs.TableLayout.{TableLayout, MadeNode, content_of, declared_at, sections_at}
 use Rattle.coll_nodes.specs.declared.contents.Content.{Content}
 use Rattle.coll_nodes.specs.declared.contents.Content.TheVariants as content
 
@@ -71,6 +72,12 @@ pub record IsApart (layout : TableLayout) (node : Content) : Type 0 where
   pub sections : AreNew same_name section_names_in layout node
   pub rings : AreNew same_ring rings_in layout node
   pub ids : AreNew same_id ids_in layout node
+
+-- so it is with a node that may be loose, as a test on what the table has
+abbrev pub is_free : TableLayout → Content → Bool
+is_free layout (content.Declared new) = not (is_declared (declared_at layout) (name_of new)) && not (has_text (declared_at layout) (text_of new))
+is_free layout (content.Begun name ring) = true
+is_free layout (content.Placed entry) = not (is_placed_in (sections_at layout) entry.id)
 
 -- a place is in a list of such nodes: that of the declarations, that of the sections, or that of a section's entries
 abbrev pub IsPlaceFor : TableLayout → Place → Content → Type 0

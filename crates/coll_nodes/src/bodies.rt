@@ -6,7 +6,7 @@
 //! and gets declarations, sections and entries; what names stand for is in `own_names`, and what is done with one node in
 //! `linking`. A new kind of node is a new ring, and a look-up where it has a key.
 
-ghost use Rattle.std.specs.Prelude.{◌≡◌, ◌∷◌, [], Some, None, false, length, IfOk, OnOk, OnErr, option_copied};
+ghost use Rattle.std.specs.Prelude.{◌≡◌, ◌∷◌, [], Some, None, false, is_some, length, IfOk, OnOk, OnErr, IfSome, IfNone, OnSome, option_copied};
 ghost use Rattle.coll_syntax.specs.Identifier.{has_name, same_name};
 ghost use Rattle.coll_nodes.specs.SoundBodies.{entry_if};
 
@@ -65,6 +65,7 @@ impl Body {
     ghost use Rattle.coll_order.specs.Changes.{one_step_more};
     ghost use Rattle.coll_nodes.specs.Bodies.{IsLaidOut};
     ghost use Rattle.coll_nodes.specs.Table.{has_text};
+    ghost use Rattle.coll_nodes.specs.Moving.{is_free};
     ghost use Rattle.coll_nodes.specs.Placement.{entry_at};
     ghost use Rattle.coll_nodes.specs.SoundLayouts.{IsSoundLayout};
     ghost use Rattle.coll_nodes.specs.SoundBodies.{IsShaped, IsPlaceIn, IsEntryPlace, Adds, with_empty_ring};
@@ -253,7 +254,27 @@ impl Body {
         ensures err { OnErr result (self.new ≡ self.old) }
     {
         self.lemma_layout();
-        self.put_new(Content::Declared(new), place)
+        match self.put_free(Content::Declared(new), place)? {
+            Some(node) => Ok(node),
+            None => unreachable!(),
+        }
+    }
+
+    /// Puts a declaration directly after a place, unless its name is declared, or an element has its string: then nothing has
+    /// changed, and none is answered. The name of a symbol is looked up once.
+    pub fn declare_free(
+        &mut self,
+        new: Declaration,
+        place: Place,
+    ) -> Result<Option<NodeId>, AllocError>
+        requires place { IsPlaceIn self.old.layout 0 place }
+        ensures free { IfOk result (λ put. is_some put ≡ is_free self.old.layout (content.Declared new)) }
+        ensures ok { IfOk result (λ put. IfSome put (λ node. Adds self.old.layout self.new.layout node (content.Declared new) place)) }
+        ensures steps { IfOk result (λ put. OnSome put (self.new.steps ≡ one_step_more self.old.steps)) }
+        ensures taken { IfOk result (λ put. IfNone put (self.new ≡ self.old)) }
+        ensures err { OnErr result (self.new ≡ self.old) }
+    {
+        self.put_free(Content::Declared(new), place)
     }
 
     /// Begins a section without a name directly after a place, and answers its node and its ring.
@@ -296,6 +317,22 @@ impl Body {
         ensures err { OnErr result (self.new ≡ self.old) }
     {
         self.lemma_layout();
-        self.put_new(Content::Placed(entry), place)
+        match self.put_free(Content::Placed(entry), place)? {
+            Some(node) => Ok(node),
+            None => unreachable!(),
+        }
+    }
+
+    /// Puts an entry directly after a place, unless its identifier stands in a section: then nothing has changed, and none is
+    /// answered. The identifier is looked up once.
+    pub fn place_free(&mut self, entry: Entry, place: Place) -> Result<Option<NodeId>, AllocError>
+        requires place { IsEntryPlace self.old.layout place }
+        ensures free { IfOk result (λ put. is_some put ≡ is_free self.old.layout (content.Placed entry)) }
+        ensures ok { IfOk result (λ put. IfSome put (λ node. Adds self.old.layout self.new.layout node (content.Placed entry) place)) }
+        ensures steps { IfOk result (λ put. OnSome put (self.new.steps ≡ one_step_more self.old.steps)) }
+        ensures taken { IfOk result (λ put. IfNone put (self.new ≡ self.old)) }
+        ensures err { OnErr result (self.new ≡ self.old) }
+    {
+        self.put_free(Content::Placed(entry), place)
     }
 }

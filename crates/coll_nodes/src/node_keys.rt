@@ -4,8 +4,8 @@
 //! came in stays for good, so that its node can be found again, or not any more, without memory. A new kind of key is a look-up
 //! more, and a case here.
 
-ghost use Rattle.std.specs.Prelude.{◌≡◌, IfOk, OnOk, OnErr};
-ghost use Rattle.coll_nodes.specs.KeyedNodes.{no_keys, HasKeysOf, HasKeyOfSection, KeepsKeys, LeadsAlike, SetsKeys, SetsSection};
+ghost use Rattle.std.specs.Prelude.{◌≡◌, true, false, Some, IfOk, OnOk, OnErr};
+ghost use Rattle.coll_nodes.specs.KeyedNodes.{leads_nowhere, no_keys, HasKeysOf, HasKeyOfSection, KeepsKeys, LeadsAlike, SetsKeys, SetsSection};
 ghost use Rattle.coll_lookups.specs.NodeLookUps.{AddsNameKey, SetsName};
 
 use crate::Declaration;
@@ -112,6 +112,63 @@ impl NodeKeys {
                 Ok(())
             }
             Content::Placed(entry) => self.placed.put(&entry.id, node),
+        }
+    }
+
+    /// Makes keys of what a node is found by, and lets them lead to it, unless one of them leads to a node: then each leads to where
+    /// it led, and so it is where memory is refused. Answers whether none of them led to a node. A key that is alone is asked for
+    /// and put in by one look-up.
+    pub(crate) fn put_free(&mut self, content: &Content, node: NodeId) -> Result<bool, AllocError>
+        ensures free { IfOk result (λ free. free ≡ leads_nowhere self.old content.now) }
+        ensures ok { IfOk result (λ free. free ≡ true → SetsKeys self.old self.new content.now (Some node)) }
+        ensures keys { IfOk result (λ free. free ≡ true → HasKeysOf self.new content.now) }
+        ensures keeps { KeepsKeys self.old self.new }
+        ensures taken { IfOk result (λ free. free ≡ false → LeadsAlike self.old self.new) }
+        ensures err { OnErr result (LeadsAlike self.old self.new) }
+    {
+        match content {
+            Content::Declared(Declaration::Symbol(name)) => self.names.put_free(name, node),
+            Content::Placed(entry) => self.placed.put_free(&entry.id, node),
+            _ => self.put_asked(content, node),
+        }
+    }
+
+    // The same, where it is asked first.
+    fn put_asked(&mut self, content: &Content, node: NodeId) -> Result<bool, AllocError>
+        ensures free { IfOk result (λ free. free ≡ leads_nowhere self.old content.now) }
+        ensures ok { IfOk result (λ free. free ≡ true → SetsKeys self.old self.new content.now (Some node)) }
+        ensures keys { IfOk result (λ free. free ≡ true → HasKeysOf self.new content.now) }
+        ensures keeps { KeepsKeys self.old self.new }
+        ensures taken { IfOk result (λ free. free ≡ false → LeadsAlike self.old self.new) }
+        ensures err { OnErr result (LeadsAlike self.old self.new) }
+    {
+        if !self.leads_nowhere(content) {
+            return Ok(false);
+        }
+        self.put(content, Some(node))?;
+        Ok(true)
+    }
+
+    // Whether nothing that a node is found by leads to a node.
+    fn leads_nowhere(&self, content: &Content) -> bool
+        ensures { result ≡ leads_nowhere self.now content.now }
+    {
+        match content {
+            Content::Declared(Declaration::Symbol(name)) => self.names.find(name).is_none(),
+            Content::Declared(Declaration::Element { name, text }) => {
+                if self.names.find(name).is_some() {
+                    return false;
+                }
+                self.texts.find(text).is_none()
+            }
+            Content::Declared(Declaration::Equivalence { name, .. }) => {
+                self.names.find(name).is_none()
+            }
+            Content::Begun { name, .. } => match name {
+                Some(name) => self.sections.find(name).is_none(),
+                None => true,
+            },
+            Content::Placed(entry) => self.placed.find(&entry.id).is_none(),
         }
     }
 

@@ -1,11 +1,12 @@
 //! Nodes of a body that are made, put in, taken out, moved, weighed anew and dropped.
 //!
 //! A node is made loose, and its keys are reserved with it, so that it can be put in and taken out any number of times without
-//! memory; one that stands from the first on is made and put in at once, with one look-up for each key (`put_new`). A key that
+//! memory; one that stands from the first on is made and put in at once, where its keys are free, with one look-up for a key that
+//! is alone (`put_free`), which both asks for it and puts it in. A key that
 //! came into a look-up stays for good. Whoever puts a node in or takes it out sets the look-ups with it; a node that is moved
 //! keeps them. A section is moved, and never loose.
 
-ghost use Rattle.std.specs.Prelude.{◌≡◌, ◌∷◌, [], Some, None, IsSome, false, true, IfOk, OnErr, OnOk};
+ghost use Rattle.std.specs.Prelude.{◌≡◌, ◌∷◌, [], Some, None, IsSome, IfSome, IfNone, OnSome, is_some, false, true, IfOk, OnErr, OnOk};
 ghost use Rattle.coll_order.specs.Changes.{one_step_more};
 ghost use Rattle.coll_order.specs.Layout.{is_in, place_from};
 
@@ -22,7 +23,7 @@ impl Body {
     ghost use Rattle.coll_nodes.specs.Linking.{IsFoundBy, end_of_declarations, nodes_without};
     ghost use Rattle.coll_nodes.specs.SoundBodies.{Adds, ids_in, section_names_in};
     ghost use Rattle.coll_nodes.specs.TableLayout.{content_of};
-    ghost use Rattle.coll_nodes.specs.Moving.{IsApart, IsPlaceFor, MayBeLoose, Suits, exchanged, weighed_nodes};
+    ghost use Rattle.coll_nodes.specs.Moving.{is_free, IsPlaceFor, MayBeLoose, Suits, exchanged, weighed_nodes};
 
     /// The node of an identifier that stands in a section.
     pub fn entry_node(&self, id: &Id) -> Option<NodeId>
@@ -74,25 +75,38 @@ impl Body {
         self.nodes.make_section(name)
     }
 
-    /// Makes a node, and puts it directly after a place. Its keys are made and lead to it at once.
-    pub(super) fn put_new(&mut self, content: Content, place: Place) -> Result<NodeId, AllocError>
+    /// Makes a node, and puts it directly after a place, unless a node that stands in a ring has a key of it: then, as where memory is
+    /// refused, nothing has changed, and none is answered. Its keys are made and lead to it at once.
+    pub(super) fn put_free(
+        &mut self,
+        content: Content,
+        place: Place,
+    ) -> Result<Option<NodeId>, AllocError>
         requires may { MayBeLoose content }
         requires fits { IsPlaceFor self.old.layout place content }
-        requires apart { IsApart self.old.layout content }
-        ensures ok { IfOk result (λ node. Adds self.old.layout self.new.layout node content place) }
-        ensures steps { OnOk result (self.new.steps ≡ one_step_more self.old.steps) }
+        ensures free { IfOk result (λ put. is_some put ≡ is_free self.old.layout content) }
+        ensures ok { IfOk result (λ put. IfSome put (λ node. Adds self.old.layout self.new.layout node content place)) }
+        ensures steps { IfOk result (λ put. OnSome put (self.new.steps ≡ one_step_more self.old.steps)) }
+        ensures taken { IfOk result (λ put. IfNone put (self.new ≡ self.old)) }
         ensures err { OnErr result (self.new ≡ self.old) }
     {
         let made = self.nodes.make(content)?;
-        if let Err(refusal) = self.keys.put(self.nodes.content(made), Some(made)) {
-            self.nodes.drop_loose(made);
-            return Err(refusal);
+        match self.keys.put_free(self.nodes.content(made), made) {
+            Ok(true) => {}
+            Ok(false) => {
+                self.nodes.drop_loose(made);
+                return Ok(None);
+            }
+            Err(refusal) => {
+                self.nodes.drop_loose(made);
+                return Err(refusal);
+            }
         }
         self.nodes.lemma_layout();
         self.nodes.lemma_few();
         self.counts = self.counts.with(self.nodes.content(made));
         self.nodes.link(made, place);
-        Ok(made)
+        Ok(Some(made))
     }
 
     /// Puts a loose node directly after a place.
