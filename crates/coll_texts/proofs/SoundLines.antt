@@ -65,6 +65,17 @@ pub declaration_fits : (declared : List Declaration) (new : Declaration) → is_
     → length declared < most_declarations → declaration_cause declared new ≡ None
 declaration_fits declared new absent means no_text room = declaration_told declared new absent means no_text ∙ ap (λ b. refused_if b Full None) (lt-leb most_declarations (length declared) room)
 
+-- of two tests neither holds where both fail
+pub neither_there : (a b : Bool) → true ≡ (not a && not b) → (a ≡ false) × (b ≡ false)
+neither_there true b e = cc
+neither_there false true e = cc
+neither_there false false e = (refl, refl)
+
+-- a test fails where its opposite holds
+pub not_there : (a : Bool) → true ≡ not a → a ≡ false
+not_there true e = cc
+not_there false e = refl
+
 pub declaration_full : (declared : List Declaration) (new : Declaration) → is_declared declared (name_of new) ≡ false → means_no_symbol declared new ≡ false → has_text declared (text_of new) ≡ false
     → most_declarations ≤ length declared → declaration_cause declared new ≡ Some Full
 declaration_full declared new absent means no_text full = declaration_told declared new absent means no_text ∙ ap (λ b. refused_if b Full None) (le-leb most_declarations (length declared) full)

@@ -214,6 +214,13 @@ order_cause d order =
     (refused_if (nat_lt (levels_of d.rules) (length (given_weights order.weights))) TooManyWeights
     (refused_if (nat_le most_entries (length (joined_entries d.sections))) Full None)))))
 
+-- the causes behind that its identifier is placed
+abbrev pub late_cause : BuilderState → OrderLine → Option LoadCause
+late_cause d order =
+    refused_if (is_symbol d.declared order.id && is_some order.weights) SymbolWithWeights
+    (refused_if (nat_lt (levels_of d.rules) (length (given_weights order.weights))) TooManyWeights
+    (refused_if (nat_le most_entries (length (joined_entries d.sections))) Full None))
+
 -- why a line is refused, from what the lines before it say; the causes stand in their order
 abbrev pub cause_after : BuilderState → TableLine → Option LoadCause
 cause_after d (line.Symbol name) = declaration_cause d.declared (declaration.Symbol name)

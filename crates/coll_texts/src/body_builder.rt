@@ -6,7 +6,7 @@
 //! places where the sections and the last of them end (`IsSoundBuilder` of `specs/SoundBodies.antt` of coll_nodes), so that no call
 //! walks.
 
-ghost use Rattle.std.specs.Prelude.{◌≡◌, ◌∷◌, ◌++◌, [], true, false, IfOk, OnOk, OnErr, length, option_copied};
+ghost use Rattle.std.specs.Prelude.{◌≡◌, ◌∷◌, ◌++◌, ◌&&◌, [], true, false, not, IfOk, OnOk, OnErr, length, option_copied};
 ghost use Rattle.coll_syntax.specs.Identifier.{has_name};
 
 use crate::own_weights::give_own_weights;
@@ -147,6 +147,22 @@ impl BodyBuilder {
         Ok(())
     }
 
+    /// Puts a declaration behind all others, unless its name is declared, or an element has its string: then nothing has changed.
+    /// Answers whether it was put. The name of a symbol is looked up once.
+    pub(crate) fn declare_free(&mut self, new: Declaration) -> Result<bool, AllocError>
+        ensures free { IfOk result (λ put. put
+            ≡ (not (is_declared self.old.declared (name_of new)) && not (has_text self.old.declared (text_of new)))) }
+        ensures ok { IfOk result (λ put. put ≡ true → self.new ≡ record self.old { declared = self.old.declared ++ new ∷ [] }) }
+        ensures taken { IfOk result (λ put. put ≡ false → self.new ≡ self.old) }
+        ensures err { OnErr result (self.new ≡ self.old) }
+    {
+        self.body.lemma_layout();
+        let Some(_) = self.body.declare_free(new, self.body.declared_end())? else {
+            return Ok(false);
+        };
+        Ok(true)
+    }
+
     /// Begins a section behind all others.
     pub(crate) fn begin_section(&mut self, name: TextBuf) -> Result<(), AllocError>
         requires { has_name (section_names self.old.sections) name ≡ false }
@@ -160,16 +176,20 @@ impl BodyBuilder {
         Ok(())
     }
 
-    /// Puts an entry behind all others, in the last section.
-    pub(crate) fn place_last(&mut self, entry: Entry) -> Result<(), AllocError>
-        requires { is_placed_in self.old.sections entry.id ≡ false }
-        ensures ok { OnOk result (self.new ≡ record self.old { sections = with_last self.old.sections entry }) }
+    /// Puts an entry behind all others, in the last section, unless its identifier stands in a section: then nothing has changed.
+    /// Answers whether it was put. The identifier is looked up once.
+    pub(crate) fn place_last(&mut self, entry: Entry) -> Result<bool, AllocError>
+        ensures free { IfOk result (λ put. put ≡ not (is_placed_in self.old.sections entry.id)) }
+        ensures ok { IfOk result (λ put. put ≡ true → self.new ≡ record self.old { sections = with_last self.old.sections entry }) }
+        ensures taken { IfOk result (λ put. put ≡ false → self.new ≡ self.old) }
         ensures err { OnErr result (self.new ≡ self.old) }
     {
         self.body.lemma_layout();
-        let node = self.body.place(entry, self.entries_end)?;
+        let Some(node) = self.body.place_free(entry, self.entries_end)? else {
+            return Ok(false);
+        };
         self.entries_end = Place::After(node);
-        Ok(())
+        Ok(true)
     }
 
     /// Gives each entry its weights by own names. It takes memory only where a second name is declared.

@@ -5,8 +5,8 @@
 //! entry. Each method judges one kind of line, as `cause_after` does. After a refusal the builder is given up. What may stand
 //! where is changed in `specs/BuilderStates.antt` first.
 
-ghost use Rattle.std.specs.Prelude.{◌≡◌, ◌≢◌, ℕ, List, true, false, is_some, unwrap_or, [], length};
-ghost use Rattle.std.specs.Prelude.{Some, None, IfOk, IfErr, IfSome, OnOk, OnErr};
+ghost use Rattle.std.specs.Prelude.{◌≡◌, ◌≢◌, ℕ, List, true, false, not, is_some, unwrap_or, [], length, nat_le};
+ghost use Rattle.std.specs.Prelude.{Some, None, IfOk, IfErr, IfSome, IfNone, OnOk, OnErr};
 ghost use Rattle.std.specs.List.{flat_map, list_any};
 ghost use Rattle.coll_lex.specs.Names.{IsName};
 ghost use Rattle.coll_syntax.specs.Proper.{IsElementText, IsProperTableLine, IsProperLine, IsNameIfGiven, AreRulesIfGiven};
@@ -22,7 +22,10 @@ ghost use Rattle.coll_nodes.specs.declared.declarations.Declaration.TheVariants 
 ghost use Rattle.coll_nodes.specs.WellFormed.{IsWellFormed};
 ghost use Rattle.coll_nodes.specs.Bodies.{value_of};
 ghost use Rattle.coll_nodes.specs.TableLayout.{collation};
-ghost use Rattle.coll_texts.specs.declared.load_faults.LoadCause.TheVariants.{OutOfMemory};
+ghost use Rattle.coll_nodes.specs.Causes.{refused_if};
+ghost use Rattle.coll_nodes.specs.Limits.{most_declarations};
+ghost use Rattle.coll_nodes.specs.Table.{is_placed_in};
+ghost use Rattle.coll_texts.specs.declared.load_faults.LoadCause.TheVariants.{OutOfMemory, PlacedTwice};
 
 use crate::body_builder::BodyBuilder;
 use crate::{LoadCause, LoadFault};
@@ -93,7 +96,7 @@ impl TableBuilder {
     ghost use Rattle.coll_nodes.specs.Entries.{entry_of, weight_ids};
     ghost use Rattle.coll_texts.specs.BuilderStates.{state_of, line_fault, table_of, second_name, own_order, with_own_weights};
     ghost use Rattle.coll_texts.specs.BuilderStates.{cause_after, weights_fault, entries_fault, declaration_cause, section_cause};
-    ghost use Rattle.coll_texts.specs.BuilderStates.{section_cause_if, order_cause, rules_differ, weight_cause, ids_cause};
+    ghost use Rattle.coll_texts.specs.BuilderStates.{section_cause_if, late_cause, order_cause, rules_differ, weight_cause, ids_cause};
     ghost use Rattle.coll_nodes.specs.Walks.{entries_visited};
     ghost use Rattle.coll_texts.specs.Loading.{state_after, state_with, with_declaration, with_section, with_section_if, with_entry};
 
@@ -187,10 +190,24 @@ impl TableBuilder {
         ensures err { IfErr result (λ cause. cause ≢ OutOfMemory → declaration_cause self.old.declared (declaration.Symbol name)
             ≡ Some cause) }
     {
-        if self.builder.declares(&name) {
+        if self.builder.declared_len() >= MOST_DECLARATIONS {
+            return Err(self.full_cause(&name));
+        }
+        if !self.builder.declare_free(Declaration::Symbol(name))? {
             return Err(LoadCause::DeclaredTwice);
         }
-        self.declare(Declaration::Symbol(name))
+        Ok(())
+    }
+
+    // Why a symbol is refused where there is no room for one more declaration.
+    fn full_cause(&self, name: &TextBuf) -> LoadCause
+        requires { nat_le most_declarations (length self.now.declared) ≡ true }
+        ensures { declaration_cause self.now.declared (declaration.Symbol name.now) ≡ Some result }
+    {
+        if self.builder.declares(name) {
+            return LoadCause::DeclaredTwice;
+        }
+        LoadCause::Full
     }
 
     // `collating-element`.
@@ -405,7 +422,9 @@ impl TableBuilder {
         }
         self.lemma_sound();
         let entry = self.entry_of(line, symbol.unwrap_or(false))?;
-        self.put(number, entry)?;
+        if !self.put(number, entry)? {
+            return Err(LoadCause::PlacedTwice);
+        }
         Ok(())
     }
 
@@ -467,11 +486,13 @@ impl TableBuilder {
         let _ = &self.order_open;
     }
 
-    // Why an order line is refused, if it is. Whether its identifier is a symbol, if it may stand in a section, was looked up.
+    // Why an order line is refused, if it is. Whether its identifier is placed isn't looked up where nothing else refuses the line: who
+    // puts its entry in learns it by the same look-up. Whether its identifier is a symbol, if it may stand in a section, was looked up.
     fn order_cause(&self, line: &OrderLine, symbol: Option<bool>) -> Option<LoadCause>
         requires known { is_some symbol ≡ is_known self.now.declared line.now.id }
         requires symbol { unwrap_or symbol false ≡ is_symbol self.now.declared line.now.id }
-        ensures { result ≡ order_cause self.now line.now }
+        ensures refused { IfSome result (λ cause. order_cause self.now line.now ≡ Some cause) }
+        ensures free { IfNone result (order_cause self.now line.now ≡ refused_if (is_placed_in self.now.sections line.now.id) PlacedTwice None) }
     {
         if !self.order_open {
             return Some(LoadCause::OutsideOrder);
@@ -479,9 +500,18 @@ impl TableBuilder {
         if symbol.is_none() {
             return Some(LoadCause::NotDeclared);
         }
+        let cause = self.late_cause(line, symbol)?;
         if self.builder.is_placed(&line.id) {
             return Some(LoadCause::PlacedTwice);
         }
+        Some(cause)
+    }
+
+    // Why an order line is refused whose identifier may stand in a section, and isn't placed.
+    fn late_cause(&self, line: &OrderLine, symbol: Option<bool>) -> Option<LoadCause>
+        requires symbol { unwrap_or symbol false ≡ is_symbol self.now.declared line.now.id }
+        ensures { result ≡ late_cause self.now line.now }
+    {
         if line.weights.is_some() && symbol.unwrap_or(false) {
             return Some(LoadCause::SymbolWithWeights);
         }
@@ -508,15 +538,18 @@ impl TableBuilder {
         Ok(Entry::new(id, weights))
     }
 
-    // Puts an entry last, with the number of its line.
-    fn put(&mut self, number: u32, entry: Entry) -> Result<(), AllocError>
-        requires { MayBePut self.old entry }
-        ensures { OnOk result (self.new ≡ with_entry self.old number entry) }
+    // Puts an entry last, with the number of its line, unless its identifier is placed. Answers whether it was put.
+    fn put(&mut self, number: u32, entry: Entry) -> Result<bool, AllocError>
+        requires { is_placed_in self.old.sections entry.id ≡ false → MayBePut self.old entry }
+        ensures free { IfOk result (λ put. put ≡ not (is_placed_in self.old.sections entry.id)) }
+        ensures ok { IfOk result (λ put. put ≡ true → self.new ≡ with_entry self.old number entry) }
     {
         self.numbers.reserve(1)?;
-        self.builder.place_last(entry)?;
+        if !self.builder.place_last(entry)? {
+            return Ok(false);
+        }
         self.numbers.push_reserved(number);
-        Ok(())
+        Ok(true)
     }
 
     // Why an identifier in a weight is refused, if it is: what is placed was declared, so a second look is taken only at
