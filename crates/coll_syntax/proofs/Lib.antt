@@ -1,4 +1,5 @@
 pub mod ElementLemmas
+pub mod KeptReading
 pub mod ListReading
 pub mod ProperLines
 pub mod ProperOperands

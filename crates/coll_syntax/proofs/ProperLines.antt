@@ -1,5 +1,5 @@
 -- What the grammar gives is proper: whole lines of tables and of deltas.
-use Rattle.std.proofs.Common.{◌≡◌, ◌≤◌, List, [], ◌∷◌, length, Some, None, Ok, Err, subst, sym}
+use Rattle.std.proofs.Common.{◌≡◌, ◌≤◌, ℕ, List, [], ◌∷◌, length, Some, None, Ok, Err, subst, sym}
 use Rattle.std.specs.Prelude.{Result, Option, All, IfOk, codes}
 use Rattle.std.proofs.lemmas.List.Elements.{All-head, All-tail, All-same}
 use Rattle.coll_lex.specs.Names.{IsName, IsToken, AreTokens}
@@ -7,6 +7,7 @@ use Rattle.coll_lex.specs.declared.tokens.Token.{Token}
 use Rattle.coll_lex.specs.declared.tokens.Token.TheVariants as token
 use Rattle.coll_syntax.specs.Identifier.{id_of}
 use Rattle.coll_syntax.specs.Keywords.{keyword_of}
+use Rattle.coll_syntax.specs.KeptLines.{kept_order, kept_row, kept_weights}
 use Rattle.coll_syntax.specs.Operands.{read_as, only, name_in, word_in, string_in, id_in, two_names}
 use Rattle.coll_syntax.specs.Elements.{element}
 use Rattle.coll_syntax.specs.Weights.{weights}
@@ -16,6 +17,7 @@ use Rattle.coll_syntax.specs.TableLines as tables
 use Rattle.coll_syntax.specs.DeltaLines as deltas
 use Rattle.coll_syntax.specs.Proper.{IsId, IsProperWeight, IsElementText, IsProperLine, AreRulesIfGiven, IsProperTableLine, IsProperDeltaLine}
 use Rattle.coll_syntax.specs.declared.identifiers.Id.{Id}
+use Rattle.coll_syntax.specs.declared.identifiers.Id.TheVariants.{Char}
 use Rattle.coll_syntax.specs.declared.keywords.Keyword.{Keyword}
 use Rattle.coll_syntax.specs.declared.keywords.Keyword.TheVariants as keyword
 use Rattle.coll_syntax.specs.declared.lines.TableLine.{TableLine}
@@ -23,7 +25,7 @@ use Rattle.coll_syntax.specs.declared.lines.TableLine.TheVariants as table
 use Rattle.coll_syntax.specs.declared.lines.DeltaLine.{DeltaLine}
 use Rattle.coll_syntax.specs.declared.lines.DeltaLine.TheVariants as delta
 use Rattle.coll_syntax.specs.declared.syntax_faults.SyntaxFault.{SyntaxFault}
-use Rattle.coll_syntax.proofs.ProperOperands.{OnSomeId, if_as, if_ended, if_only, name_in-name, id_of-proper, id_in-proper, two_names-proper, element-proper, weights-proper, rules-proper}
+use Rattle.coll_syntax.proofs.ProperOperands.{OnSomeId, if_as, if_ended, if_only, name_in-name, id_of-proper, id_in-proper, two_names-proper, element-proper, weights-proper, kept_weights-proper, rules-proper}
 
 -- what is always so of what was read
 always : {A : Type 0} (r : Result A SyntaxFault) → IfOk r (λ _. Unit {0})
@@ -87,6 +89,22 @@ table_begun : (o : Option Keyword) (first : Token) (rest : List Token) → IsTok
 table_begun (Some word) first rest h a = table_keyword word rest a
 table_begun None first rest h a = if_as IsProperLine IsProperTableLine table.Order (order_line first rest) (order_line-proper first rest h a) (λ line p. p)
 
+-- lines of tables as a loader keeps them
+
+kept_order-proper : (own : ℕ) (rest : List Token) → IsId (Char own) → All IsToken rest → IfOk (kept_order own rest) IsProperTableLine
+kept_order-proper own [] h a = (h, tt)
+kept_order-proper own (t ∷ ts) h a =
+    if_as (λ ws. (1 ≤ length ws) × All IsProperWeight ws) IsProperTableLine (λ given. table.Order (record { id = Char own; weights = Some given })) (kept_weights own (t ∷ ts))
+    (kept_weights-proper own (t ∷ ts) a) (λ ws p. (h, p))
+
+kept_row-proper : (first : Token) (rest : List Token) → IsToken first → All IsToken rest → IfOk (kept_row first rest) IsProperTableLine
+kept_row-proper (token.Word w) rest h a = table_begun (keyword_of (token.Word w)) (token.Word w) rest h a
+kept_row-proper (token.Symbol name) rest h a = table_begun (keyword_of (token.Symbol name)) (token.Symbol name) rest h a
+kept_row-proper (token.Char c) rest h a = kept_order-proper c rest h a
+kept_row-proper (token.Text ps) rest h a = table_begun (keyword_of (token.Text ps)) (token.Text ps) rest h a
+kept_row-proper token.Semicolon rest h a = table_begun (keyword_of token.Semicolon) token.Semicolon rest h a
+kept_row-proper token.Comma rest h a = table_begun (keyword_of token.Comma) token.Comma rest h a
+
 -- lines of deltas
 
 delta_keyword : (word : Keyword) (rest : List Token) → All IsToken rest → IfOk (deltas.keyword_row word rest) IsProperDeltaLine
@@ -124,6 +142,12 @@ pub table_row-proper : (ts : List Token) (first : Token) (rest : List Token) (re
 table_row-proper ts first rest result a e h =
     let each = All-same IsToken (first ∷ rest) ts (sym e) a.each in
     answered IsProperTableLine (tables.table_row first rest) result h (table_begun (keyword_of first) first rest (All-head IsToken first rest each) (All-tail IsToken first rest each))
+
+pub kept_proper : (ts : List Token) (first : Token) (rest : List Token) (result : Result TableLine SyntaxFault) → AreTokens ts → ts ≡ first ∷ rest
+    → IfOk result (λ read. kept_row first rest ≡ Ok read) → IfOk result IsProperTableLine
+kept_proper ts first rest result a e h =
+    let each = All-same IsToken (first ∷ rest) ts (sym e) a.each in
+    answered IsProperTableLine (kept_row first rest) result h (kept_row-proper first rest (All-head IsToken first rest each) (All-tail IsToken first rest each))
 
 pub delta_row-proper : (ts : List Token) (first : Token) (rest : List Token) (result : Result DeltaLine SyntaxFault) → AreTokens ts → ts ≡ first ∷ rest
     → IfOk result (λ read. deltas.delta_row first rest ≡ Ok read) → IfOk result IsProperDeltaLine

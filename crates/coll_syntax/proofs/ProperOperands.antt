@@ -16,13 +16,14 @@ use Rattle.coll_lex.specs.declared.tokens.Piece.TheVariants as piece
 use Rattle.coll_syntax.specs.Identifier.{is_word, char_or_name, id_of}
 use Rattle.coll_syntax.specs.Operands.{and_then, read_as, wanted, ended, operand, only, name_in, word_in, id_in, two_names, is_semicolon, operands_of, all_read}
 use Rattle.coll_syntax.specs.Elements.{characters_of, short_text, element_text, text_in, from_text, element}
+use Rattle.coll_syntax.specs.KeptLines.{is_only, kept_operand, kept_weights}
 use Rattle.coll_syntax.specs.Weights.{piece_id, string_weight, one_id, weight, left_over, operand_weight, weights}
 use Rattle.coll_syntax.specs.Rules.{rule, judged_levels, rules}
 use Rattle.coll_syntax.specs.Proper.{IsId, IsWeightId, IsProperWeight, IsElementText}
 use Rattle.coll_syntax.specs.declared.identifiers.Id.{Id}
 use Rattle.coll_syntax.specs.declared.identifiers.Id.TheVariants.{Char, Named, Undefined}
 use Rattle.coll_syntax.specs.declared.weights.Weight.{Weight}
-use Rattle.coll_syntax.specs.declared.weights.Weight.TheVariants.{Ignore, Names}
+use Rattle.coll_syntax.specs.declared.weights.Weight.TheVariants.{Ignore, Own, Names}
 use Rattle.coll_syntax.specs.declared.rules.Rule.{Rule}
 use Rattle.coll_syntax.specs.declared.syntax_faults.SyntaxFault.{SyntaxFault}
 use Rattle.coll_syntax.specs.declared.syntax_faults.SyntaxFault.TheVariants.{BadOperand, TooManyLevels, ElementLength, WeightTooLong}
@@ -214,21 +215,37 @@ operand_weight-proper [] a = tt
 operand_weight-proper (t ∷ []) a = weight-proper t (All-head IsToken t [] a)
 operand_weight-proper (t ∷ next ∷ ts) a = if_then IsProperWeight IsProperWeight (weight t) (λ _. Err (left_over next)) (weight-proper t (All-head IsToken t (next ∷ ts) a)) (λ _ _. tt)
 
-each-operand : (parts : List (List Token)) → All (All IsToken) parts → All (λ r. IfOk r IsProperWeight) (map operand_weight parts)
-each-operand [] a = All-nil (λ r. IfOk r IsProperWeight)
-each-operand (part ∷ parts) a = All-cons (λ r. IfOk r IsProperWeight) (operand_weight part) (map operand_weight parts) (operand_weight-proper part (All-head (All IsToken) part parts a))
-    (each-operand parts (All-tail (All IsToken) part parts a))
+-- where each operand gives a proper weight, the weights of a line are proper, and there is one
+module _ (read : List Token → Result Weight SyntaxFault) (proper : (ts : List Token) → All IsToken ts → IfOk (read ts) IsProperWeight) where
+  each-operand : (parts : List (List Token)) → All (All IsToken) parts → All (λ r. IfOk r IsProperWeight) (map read parts)
+  each-operand [] a = All-nil (λ r. IfOk r IsProperWeight)
+  each-operand (part ∷ parts) a = All-cons (λ r. IfOk r IsProperWeight) (read part) (map read parts) (proper part (All-head (All IsToken) part parts a))
+      (each-operand parts (All-tail (All IsToken) part parts a))
+
+  counted : (parts : List (List Token)) (r : Result (List Weight) SyntaxFault) → 0 < length parts → IfOk r (λ ws. (length ws ≡ length (map read parts)) × All IsProperWeight ws)
+      → IfOk r (λ ws. (1 ≤ length ws) × All IsProperWeight ws)
+  counted parts (Ok ws) l h = let e = h.0 ∙ length-map parts read in (omega (arith, e, l), h.1)
+  counted parts (Err f) l h = tt
+
+  operands-proper : (ts : List Token) → All IsToken ts → IfOk (all_read (map read (operands_of ts))) (λ ws. (1 ≤ length ws) × All IsProperWeight ws)
+  operands-proper ts a = counted (operands_of ts) (all_read (map read (operands_of ts))) (some_operand ts)
+      (if_all_read IsProperWeight (map read (operands_of ts)) (each-operand (operands_of ts) (All-slice_split IsToken is_semicolon ts a)))
 
 -- the weights of a line are proper, and there is one
 pub weights-proper : (ts : List Token) → All IsToken ts → IfOk (weights ts) (λ ws. (1 ≤ length ws) × All IsProperWeight ws)
 unfolding weights
-weights-proper ts a = counted (operands_of ts) (all_read (map operand_weight (operands_of ts))) (some_operand ts)
-    (if_all_read IsProperWeight (map operand_weight (operands_of ts)) (each-operand (operands_of ts) (All-slice_split IsToken is_semicolon ts a)))
-  where
-    counted : (parts : List (List Token)) (r : Result (List Weight) SyntaxFault) → 0 < length parts → IfOk r (λ ws. (length ws ≡ length (map operand_weight parts)) × All IsProperWeight ws)
-        → IfOk r (λ ws. (1 ≤ length ws) × All IsProperWeight ws)
-    counted parts (Ok ws) l h = let e = h.0 ∙ length-map parts operand_weight in (omega (arith, e, l), h.1)
-    counted parts (Err f) l h = tt
+weights-proper ts a = operands-proper operand_weight operand_weight-proper ts a
+
+-- so it is with those of the line of a character
+kept_operand-proper : (own : ℕ) (ts : List Token) → All IsToken ts → IfOk (kept_operand own ts) IsProperWeight
+kept_operand-proper own ts a = by (is_only own ts) where
+  by : (b : Bool) → IfOk (if b then Ok Own else operand_weight ts) IsProperWeight
+  by true = tt
+  by false = operand_weight-proper ts a
+
+pub kept_weights-proper : (own : ℕ) (ts : List Token) → All IsToken ts → IfOk (kept_weights own ts) (λ ws. (1 ≤ length ws) × All IsProperWeight ws)
+unfolding kept_weights
+kept_weights-proper own ts a = operands-proper (kept_operand own) (kept_operand-proper own) ts a
 
 -- rules
 

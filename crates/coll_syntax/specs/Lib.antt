@@ -1,6 +1,7 @@
 pub mod DeltaLines
 pub mod Elements
 pub mod Identifier
+pub mod KeptLines
 pub mod Keywords
 pub mod Operands
 pub mod OrderLines

@@ -34,5 +34,5 @@ pub use operands::{copied_name, ended, id_of};
 pub use rules::{MOST_LEVELS, Rule, Rules};
 pub use statements::{MOST_BLOCK_LINES, OrderLine, Statement};
 pub use syntax_faults::SyntaxFault;
-pub use table_lines::parse_table_line;
+pub use table_lines::{parse_kept_line, parse_table_line};
 pub use weights::{MOST_WEIGHT_IDS, Weight};

@@ -7,6 +7,7 @@ ghost use Rattle.std.specs.Prelude.{◌≡◌, ◌≢◌, Ok, Err, IsTrue, IfOk,
 ghost use Rattle.coll_syntax.specs.declared.syntax_faults.SyntaxFault.TheVariants.{OutOfMemory};
 ghost use Rattle.coll_syntax.specs.TableLines.{table_line, table_row, keyword_row as spelled_row};
 ghost use Rattle.coll_syntax.specs.TableLines.{order_start as spelled_start, section_rules as spelled_section_rules};
+ghost use Rattle.coll_syntax.specs.KeptLines.{kept_line, kept_row as spelled_kept_row, kept_order as spelled_kept_order};
 ghost use Rattle.coll_lex.specs.Names.{AreTokens};
 ghost use Rattle.coll_syntax.specs.Keywords.{keyword_of as spelled_keyword};
 ghost use Rattle.coll_syntax.specs.TakenMemory.{table_line_takes_memory, table_row_takes_memory};
@@ -18,7 +19,8 @@ use crate::keywords::{Keyword, keyword_of};
 use crate::operands::{copied_name, ended, only_copied_name, only_name, only_word, two_names};
 use crate::order_lines::order_line;
 use crate::rule_lists::rules;
-use crate::{Rules, SyntaxFault, TableLine};
+use crate::weight_lists::kept_weights;
+use crate::{Id, OrderLine, Rules, SyntaxFault, TableLine};
 use coll_lex::{Line, Token};
 use std::alloc::Global;
 
@@ -40,6 +42,49 @@ pub fn parse_table_line(alloc: Global, line: &Line) -> Result<TableLine, SyntaxF
         return Err(SyntaxFault::UnknownStatement);
     };
     row(alloc, first, rest)
+}
+
+/// What a line of a table says, as a loader keeps it.
+///
+/// It is what `parse_table_line` gives, but for order lines whose identifier is a code point: a weight there that names only this
+/// character is given as the entry's own, which it becomes in any case. So such a weight takes no memory.
+pub fn parse_kept_line(alloc: Global, line: &Line) -> Result<TableLine, SyntaxFault>
+    requires { AreTokens line.now.tokens }
+    ensures ok { IfOk result (λ read. kept_line line.now.tokens ≡ Ok read) }
+    ensures err { IfErr result (λ fault. fault ≢ OutOfMemory → kept_line line.now.tokens ≡ Err fault) }
+    ensures proper { IfOk result IsProperTableLine }
+{
+    let Some((first, rest)) = line.tokens.get().split_first() else {
+        return Err(SyntaxFault::UnknownStatement);
+    };
+    kept_row(alloc, first, rest)
+}
+
+// What a line says by its first token and those after it, as a loader keeps it.
+fn kept_row(alloc: Global, first: &Token, rest: &[Token]) -> Result<TableLine, SyntaxFault>
+    ensures ok { IfOk result (λ read. spelled_kept_row first.now rest.now ≡ Ok read) }
+    ensures err { IfErr result (λ fault. fault ≢ OutOfMemory → spelled_kept_row first.now rest.now ≡ Err fault) }
+{
+    match first {
+        Token::Char(own) => kept_order(alloc, *own, rest),
+        _ => row(alloc, first, rest),
+    }
+}
+
+// The order line of a character, with or without weights.
+fn kept_order(alloc: Global, own: char, rest: &[Token]) -> Result<TableLine, SyntaxFault>
+    ensures ok { IfOk result (λ read. spelled_kept_order own rest.now ≡ Ok read) }
+    ensures err { IfErr result (λ fault. fault ≢ OutOfMemory → spelled_kept_order own rest.now ≡ Err fault) }
+{
+    let id = Id::Char(own);
+    if rest.is_empty() {
+        return Ok(TableLine::Order(OrderLine { id, weights: None }));
+    }
+    let weights = kept_weights(alloc, own, rest)?;
+    Ok(TableLine::Order(OrderLine {
+        id,
+        weights: Some(weights),
+    }))
 }
 
 // What a line says by its first token and those after it.

@@ -4,6 +4,7 @@
 //! operands are read one after another, each from left to right.
 
 ghost use Rattle.std.specs.Prelude.{◌≡◌, ◌≢◌, Ok, Err, IfOk, IfErr, map};
+ghost use Rattle.coll_syntax.specs.KeptLines.{is_only, kept_weights as spelled_kept, kept_operand as spelled_kept_operand};
 ghost use Rattle.coll_syntax.specs.Weights.{weights as spelled_weights, operand_weight as spelled_operand};
 ghost use Rattle.coll_syntax.specs.Weights.{weight as spelled_weight, string_weight as spelled_string};
 ghost use Rattle.coll_syntax.specs.Weights.{left_over as spelled_left_over, begins_operand as spelled_begin};
@@ -29,6 +30,46 @@ pub(crate) fn weights(alloc: Global, tokens: &[Token]) -> Result<ListBuf<Weight>
     }
     weights.shrink_to_fit();
     Ok(ListBuf::new(weights))
+}
+
+/// The weights that the tokens behind a character spell. One that names only the character is the entry's own, and takes no memory:
+/// most lines that a table has for a script of its own are so.
+pub(crate) fn kept_weights(
+    alloc: Global,
+    own: char,
+    tokens: &[Token],
+) -> Result<ListBuf<Weight>, SyntaxFault>
+    ensures ok { IfOk result (λ read. spelled_kept own tokens.now ≡ Ok read) }
+    ensures err { IfErr result (λ fault. fault ≢ OutOfMemory → spelled_kept own tokens.now ≡ Err fault) }
+{
+    let mut weights = Vec::new(alloc);
+    for operand in tokens.split(is_semicolon) {
+        let weight = kept_operand(alloc, own, operand)?;
+        weights.push(weight)?;
+    }
+    weights.shrink_to_fit();
+    Ok(ListBuf::new(weights))
+}
+
+// The weight of one operand of the line of a character.
+fn kept_operand(alloc: Global, own: char, operand: &[Token]) -> Result<Weight, SyntaxFault>
+    ensures ok { IfOk result (λ read. spelled_kept_operand own operand.now ≡ Ok read) }
+    ensures err { IfErr result (λ fault. fault ≢ OutOfMemory → spelled_kept_operand own operand.now ≡ Err fault) }
+{
+    if !is_only(own, operand) {
+        return operand_weight(alloc, operand);
+    }
+    Ok(Weight::Own)
+}
+
+// Whether an operand is the code point of a character, and nothing else.
+fn is_only(own: char, operand: &[Token]) -> bool
+    ensures { result ≡ is_only own operand.now }
+{
+    match operand {
+        [Token::Char(c)] => *c == own,
+        _ => false,
+    }
 }
 
 // The weight of one operand, which stands between two semicolons.
