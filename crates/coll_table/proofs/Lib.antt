@@ -15,6 +15,7 @@ pub mod ItemRings
 pub mod ItemSections
 pub mod ItemWeights
 pub mod ItemsDone
+pub mod KeptLines
 pub mod KeyReads
 pub mod ListedItems
 pub mod LineCauses

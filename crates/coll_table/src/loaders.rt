@@ -8,6 +8,7 @@
 ghost use Rattle.std.specs.Prelude.{◌≡◌, ◌≢◌, true, false, None, Ok, Err, Some, IsTrue, IfOk, IfErr, IfSome, IfNone, OnOk, OnErr};
 ghost use Rattle.coll_lex.specs.LogicalLines.{number_of, fed, outside, takes_memory};
 ghost use Rattle.coll_lex.specs.Names.{AreTokens};
+ghost use Rattle.coll_syntax.specs.KeptLines.{kept_line};
 ghost use Rattle.coll_syntax.specs.TableLines.{table_line};
 ghost use Rattle.coll_texts.specs.BuilderStates.{table_of};
 ghost use Rattle.coll_texts.specs.Loading.{LinesAreRead};
@@ -20,7 +21,7 @@ ghost use Rattle.coll_texts.specs.declared.load_faults.LoadCause.TheVariants.{Ou
 use crate::Table;
 use coll_lex::{Lexer, Line};
 use coll_lookups::HashKeys;
-use coll_syntax::parse_table_line;
+use coll_syntax::parse_kept_line;
 use coll_texts::{LoadCause, LoadFault, TableBuilder};
 use std::alloc::{AllocError, Global};
 use std::marker::Model;
@@ -229,7 +230,7 @@ impl Loader {
         }
     }
 
-    // Takes a logical line of the category.
+    // Takes a logical line of the category. What its entry keeps of it is read from it at once.
     fn take_logical(&mut self, line: &Line) -> Result<(), LoadFault>
         requires tokens { AreTokens line.now.tokens }
         requires going { self.old.ended ≡ false }
@@ -240,7 +241,21 @@ impl Loader {
         ensures cause { IfErr result (λ fault. IsLineCause fault.cause) }
         ensures ended { OnErr result (self.new.ended ≡ self.old.ended) }
     {
-        match parse_table_line(self.alloc, line) {
+        self.take_kept(line)
+    }
+
+    // Takes a logical line of the category, as it is kept.
+    fn take_kept(&mut self, line: &Line) -> Result<(), LoadFault>
+        requires tokens { AreTokens line.now.tokens }
+        requires going { self.old.ended ≡ false }
+        ensures ok { OnOk result (by_read self.old line.now.number (kept_line line.now.tokens) ≡ Ok self.new) }
+        ensures err { IfErr result (λ fault. fault.cause ≢ OutOfMemory → by_read self.old line.now.number (kept_line line.now.tokens)
+            ≡ Err fault) }
+        ensures starved_at { IfErr result (λ fault. fault.cause ≡ OutOfMemory → fault.line ≡ line.now.number) }
+        ensures cause { IfErr result (λ fault. IsLineCause fault.cause) }
+        ensures ended { OnErr result (self.new.ended ≡ self.old.ended) }
+    {
+        match parse_kept_line(self.alloc, line) {
             Ok(read) => {
                 self.ended = self.builder.take(line.number, read)?;
                 Ok(())

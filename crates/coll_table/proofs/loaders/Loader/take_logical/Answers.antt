@@ -1,9 +1,17 @@
--- What a builder refuses a line for is a cause of lines.
-use Rattle.std.proofs.lemmas.Result.{err_from_is_err_and}
-use Rattle.coll_table.proofs.LineCauses.{refused_cause}
+-- What is kept of a line is taken as the line is.
+use Rattle.std.proofs.Common.{◌≡◌, ◌≢◌, subst, Ok, Err}
+use Rattle.std.specs.Prelude.{IfErr, OnOk, Result}
+use Rattle.coll_texts.specs.Loading.{LoaderState}
+use Rattle.coll_texts.specs.declared.load_faults.LoadFault.{LoadFault}
+use Rattle.coll_texts.specs.declared.load_faults.LoadCause.TheVariants.{OutOfMemory}
+use Rattle.coll_table.proofs.KeptLines.{kept_taken}
 use Rattle.coll_table.proofs.loaders.Loader.take_logical.Goals as goal
 
-pub returns-in_err-self-inside-in-Ok-clause-cause : goal.returns-in_err-self-inside-in-Ok-clause-cause
-returns-in_err-self-inside-in-Ok-clause-cause c =
-    let p = err_from_is_err_and c.from_residual.result c.from_residual.ensures.1 in
-    rw (p.1, p.2) (refused_cause c.self.inside.builder (record { number = c.args.line.now.number; line = c.in-Ok.read }) c.in_err-self-inside-in-Ok.field-0.0 c.in_err-self-inside-in-Ok.ensures.err)
+pub returns-clause-ok : goal.returns-clause-ok
+returns-clause-ok c = subst (λ (read : Result LoaderState LoadFault). OnOk c.take_kept.result (read ≡ Ok c.take_kept.new.self))
+    (kept_taken c.args.self.now c.args.line.now.number c.args.line.now.tokens) c.take_kept.ensures.ok
+
+pub returns-clause-err : goal.returns-clause-err
+returns-clause-err c =
+    subst (λ (read : Result LoaderState LoadFault). IfErr c.take_kept.result (λ (fault : LoadFault). fault.cause ≢ OutOfMemory → read ≡ Err fault))
+    (kept_taken c.args.self.now c.args.line.now.number c.args.line.now.tokens) c.take_kept.ensures.err
