@@ -3,7 +3,7 @@ use Rattle.coll_texts.proofs.BuilderSteps.{entry_place, placed_builder, placed_p
 use Rattle.coll_texts.proofs.body_builder.BodyBuilder.place_last.Goals as goal
 
 pub place_free-requires : goal.place_free-requires
-place_free-requires c = record { place = entry_place c.self.inside.body.layout c.self.inside.entries_end c.lemma_layout.ensures.shaped c.self.invariant.entries; }
+place_free-requires c = record { place = entry_place c.self.inside.body.layout c.self.inside.entries_end c.lemma_layout.ensures.shaped c.self.invariant.entries }
 
 pub invariant_of-self-2 : goal.invariant_of-self-2
 invariant_of-self-2 c = placed_builder c.self.inside.body.layout c.place_free.new.self.layout c.in-Some.node c.self.inside.sections_end c.self.inside.entries_end

@@ -1,5 +1,5 @@
 -- A builder with one more symbol is sound.
-use Rattle.std.proofs.Common.{◌<◌, length, sym, subst, refl, ◌∙◌}
+use Rattle.std.proofs.Common.{◌<◌, sym, subst, refl, ◌∙◌}
 use Rattle.coll_nodes.specs.Limits.{most_declarations}
 use Rattle.coll_nodes.specs.declared.declarations.Declaration.{Declaration}
 use Rattle.coll_nodes.specs.declared.declarations.Declaration.TheVariants.{Symbol}
