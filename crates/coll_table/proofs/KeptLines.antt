@@ -1,5 +1,5 @@
 -- A line as a loader keeps it is taken as the line itself: what an entry keeps of its weights is the same.
-use Rattle.std.proofs.Common.{◌≡◌, ℕ, ◌+◌, ◌-◌, Bool, true, false, cond, List, [], ◌∷◌, ◌++◌, map, replicate, length, Option, Some, None, sym, ap, ap₂, ◌∙◌, refl}
+use Rattle.std.proofs.Common.{◌≡◌, ℕ, ◌-◌, Bool, true, false, cond, List, [], ◌∷◌, ◌++◌, map, replicate, length, Option, Some, None, sym, ap, ap₂, ◌∙◌, refl}
 use Rattle.std.specs.Prelude.{Result, Ok, Err, nat_le, nat_lt, not, ◌&&◌, ◌==◌}
 use Rattle.std.specs.Option.{option_map, option_or}
 use Rattle.std.proofs.lemmas.List.{length-map}
@@ -7,7 +7,7 @@ use Rattle.std.proofs.lemmas.Bool.Decides.{Decides-eqb}
 use Rattle.coll_lex.specs.declared.tokens.Token.{Token}
 use Rattle.coll_lex.specs.declared.tokens.Token.TheVariants as token
 use Rattle.coll_lookups.proofs.Sameness.{decided_symmetric}
-use Rattle.coll_syntax.specs.KeptLines.{is_only, kept_line, kept_operand, kept_order, kept_row, kept_weights}
+use Rattle.coll_syntax.specs.KeptLines.{kept_line, kept_operand, kept_order, kept_weights}
 use Rattle.coll_syntax.specs.Keywords.{keyword_of}
 use Rattle.coll_syntax.specs.Operands.{all_read, and_then, operands_of, read_as}
 use Rattle.coll_syntax.specs.TableLines.{table_line, table_row}
@@ -15,7 +15,6 @@ use Rattle.coll_syntax.specs.Weights.{operand_weight, weights}
 use Rattle.coll_syntax.specs.declared.identifiers.Id.TheVariants.{Char}
 use Rattle.coll_syntax.specs.declared.lines.TableLine.{TableLine}
 use Rattle.coll_syntax.specs.declared.lines.TableLine.TheVariants.{Order}
-use Rattle.coll_syntax.specs.declared.statements.OrderLine.{OrderLine}
 use Rattle.coll_syntax.specs.declared.syntax_faults.SyntaxFault.{SyntaxFault}
 use Rattle.coll_syntax.specs.declared.weights.Weight.{Weight}
 use Rattle.coll_syntax.specs.declared.weights.Weight.TheVariants.{Own, Names}
