@@ -1,5 +1,6 @@
 mod CharNodes
 pub mod IdSets
+pub mod FollowedNumbers
 mod NameNodes
 pub mod NameSets
 mod NodeLookUps
