@@ -65,7 +65,7 @@ module _ (layout : TableLayout) (shaped : IsShaped layout) where
       ∙ sym (read_twice (read_at entry_in layout) (read_at (entry_nodes_in layout) layout) (ring_at layout 1)))
 
   -- each of the nodes is an entry, and stands in a ring
-  entry_at_node : (node : NodeId) → has_node (entry_nodes layout) node ≡ true → ((entry : Entry) × (content_of layout node ≡ Some (content.Placed entry))) × (is_in layout.rings node ≡ true)
+  pub entry_at_node : (node : NodeId) → has_node (entry_nodes layout) node ≡ true → ((entry : Entry) × (content_of layout node ≡ Some (content.Placed entry))) × (is_in layout.rings node ≡ true)
   entry_at_node node there =
       let section = any_from (same_node node) (read_at (entry_nodes_in layout) layout) (ring_at layout 1) there in
       let is = section_at layout shaped section.0 section.1 in

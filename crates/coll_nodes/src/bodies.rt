@@ -6,7 +6,7 @@
 //! and gets declarations, sections and entries; what names stand for is in `own_names`, and what is done with one node in
 //! `linking`. A new kind of node is a new ring, and a look-up where it has a key.
 
-ghost use Rattle.std.specs.Prelude.{◌≡◌, ◌∷◌, [], Some, None, false, is_some, length, IfOk, OnOk, OnErr, IfSome, IfNone, OnSome, option_copied};
+ghost use Rattle.std.specs.Prelude.{◌≡◌, ◌∷◌, [], Some, None, false, is_some, length, IfOk, OnOk, OnErr, IsSome, IfSome, IfNone, OnSome, option_copied};
 ghost use Rattle.coll_syntax.specs.Identifier.{has_name, same_name};
 ghost use Rattle.coll_nodes.specs.SoundBodies.{entry_if};
 
@@ -71,7 +71,7 @@ impl Body {
     ghost use Rattle.coll_nodes.specs.SoundBodies.{IsShaped, IsPlaceIn, IsEntryPlace, Adds, with_empty_ring};
     ghost use Rattle.coll_nodes.specs.Table.{name_of, names_of, text_of, texts_of, is_declared, is_known};
     ghost use Rattle.coll_nodes.specs.Table.{is_symbol, is_placed_in, section_names, joined_entries};
-    ghost use Rattle.coll_nodes.specs.TableLayout.{declared_at, sections_at, declarations_ring, sections_ring};
+    ghost use Rattle.coll_nodes.specs.TableLayout.{content_of, declared_at, sections_at, declarations_ring, sections_ring};
     ghost use Rattle.coll_nodes.specs.WellFormed.{AreDistinct};
     ghost use Rattle.coll_nodes.specs.declared.contents.Content.TheVariants as content;
 
@@ -221,6 +221,14 @@ impl Body {
             Some(node) => entry_of(self.nodes.content(node)),
             None => None,
         }
+    }
+
+    /// What a node is, whether it stands in a ring or is loose.
+    pub fn content(&self, node: NodeId) -> &Content
+        requires { IsSome (content_of self.now.layout node) }
+        ensures { content_of self.now.layout node ≡ Some result.now }
+    {
+        self.nodes.content(node)
     }
 
     /// The number of declarations.

@@ -29,6 +29,7 @@ impl Body {
         ensures { OnOk result (AreNumbersOf numbers.new self.now.layout) }
     {
         self.lemma_layout();
+        numbers.begin_anew();
         number_sections(&self.nodes, self.sections, numbers)?;
         Ok(())
     }

@@ -9,4 +9,4 @@ number_sections-requires-clause-few c =
 
 pub returns : goal.returns
 returns c =
-    are_numbers c.args.self.now.layout c.args.numbers.now c.number_sections.new.numbers c.lemma_layout.ensures.sound c.requires.distinct (rw (← c.self.view_is) c.in_ok-number_sections.ensures)
+    are_numbers c.args.self.now.layout c.begin_anew.new.self c.number_sections.new.numbers c.lemma_layout.ensures.sound c.requires.distinct (rw (← c.self.view_is) c.in_ok-number_sections.ensures)
