@@ -6,6 +6,10 @@ pub mod DeltaPlacing
 pub mod DeltaRefusals
 pub mod DeltaSections
 pub mod DeltaTables
+pub mod FollowedEntries
+pub mod FollowedItems
+pub mod FollowedLists
+pub mod FollowedTables
 pub mod GrowthLemmas
 pub mod ItemDeclarations
 pub mod ItemEntries

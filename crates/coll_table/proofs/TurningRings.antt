@@ -19,7 +19,7 @@ use Rattle.coll_nodes.specs.TableLayout.{TableLayout}
 use Rattle.coll_nodes.specs.Moving.{IsAt, relinked}
 
 -- a list without a node has none twice
-distinct_without : (node : NodeId) (nodes : List NodeId) → AreDistinct nodes → AreDistinct (without node nodes)
+pub distinct_without : (node : NodeId) (nodes : List NodeId) → AreDistinct nodes → AreDistinct (without node nodes)
 distinct_without node [] distinct = tt
 distinct_without node (first ∷ rest) distinct =
     by_test (λ b. AreDistinct (cond b (without node rest) (first ∷ without node rest))) (same_node node first)

@@ -1,5 +1,6 @@
 pub mod Applied
 pub mod Delta
+pub mod Following
 pub mod Growth
 pub mod Judging
 pub mod Loads

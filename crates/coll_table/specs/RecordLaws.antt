@@ -1,10 +1,11 @@
 -- The laws of records: what a history of statements rests on that are taken back by their nodes' neighbours alone.
-use Rattle.std.specs.Prelude.{◌≡◌, true, false}
+use Rattle.std.specs.Prelude.{◌≡◌, ℕ, true, false, List}
 use Rattle.coll_order.specs.Layout.{is_in}
 use Rattle.coll_order.specs.Lists.{has_node}
 use Rattle.coll_order.specs.declared.places.NodeId.{NodeId}
 use Rattle.coll_nodes.specs.Bodies.{IsLooseNode}
 use Rattle.coll_table.specs.Record.{AreLoose, Extends, Fits, NameNodesOf, added_nodes, turn, turned}
+use Rattle.coll_nodes.specs.NodeNumbers.{AreNumbersOf}
 use Rattle.coll_nodes.specs.SoundLayouts.{IsTable}
 use Rattle.coll_nodes.specs.TableLayout.{TableValue, collation}
 use Rattle.coll_table.specs.Turning.{steps_of}
@@ -60,3 +61,12 @@ pub record PutsIn (table : TableValue) (kept : Record) : Type 0 where
 -- each undone record that fits puts its nodes in
 abbrev pub UndonePutIn : Type 0
 UndonePutIn = (table : TableValue) (kept : Record) → IsTable table → kept.undone ≡ true → Fits table kept → PutsIn table kept
+
+-- loose nodes more give no entry another place
+pub record NumberedAlike (wide table : TableValue) (numbers : List ℕ) : Type 0 where
+  pub wider : AreNumbersOf numbers table.layout → AreNumbersOf numbers wide.layout
+  pub narrower : AreNumbersOf numbers wide.layout → AreNumbersOf numbers table.layout
+
+-- places of a table's entries are those of each table that extends it, and the other way round
+abbrev pub WiderNumberedAlike : Type 0
+WiderNumberedAlike = (wide table : TableValue) (numbers : List ℕ) → IsTable table → Extends wide table → NumberedAlike wide table numbers

@@ -9,10 +9,12 @@
 //! - `loaders` and `loading`: a text, read line by line (`SoundLoaders`, `Loads`);
 //! - `deltas`, with `deltas/judging` and `deltas/preparing`, and `refusals`: a statement, judged, prepared and
 //!   applied (`OwnStatements`, `Delta`, `Judging`, `Prepared`, `Growth`, `StatementItems`, `Applied`, `Refusals`);
-//! - `records`, `turning` and `record_laws`: a statement, taken back and done again (`Turning`, `Record`, `RecordLaws`).
+//! - `records`, `turning` and `record_laws`: a statement, taken back and done again (`Turning`, `Record`, `RecordLaws`);
+//! - `following`: places of entries, kept beside a table, that follow a record (`Following`).
 #![tactic(auto)]
 
 mod deltas;
+mod following;
 mod loaders;
 mod loading;
 mod record_laws;
@@ -32,7 +34,7 @@ pub use loading::{load, load_keyed, texts_are_well_formed};
 pub use record_laws::{
     lemma_records_add_alike, lemma_records_fit_narrower, lemma_records_fit_where_named,
     lemma_records_fit_wider, lemma_records_turn_back, lemma_undone_records_put_in,
-    lemma_wider_tables_read_alike,
+    lemma_wider_tables_are_numbered_alike, lemma_wider_tables_read_alike,
 };
 pub use records::{Item, Record};
 pub use refusals::Refusal;

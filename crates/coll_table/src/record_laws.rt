@@ -3,7 +3,7 @@
 //! They are what a history of statements rests on, each of which is taken back by its nodes' neighbours alone.
 
 ghost use Rattle.coll_table.specs.RecordLaws.{RecordsTurnBack, RecordsAddAlike, RecordsFitWider};
-ghost use Rattle.coll_table.specs.RecordLaws.{RecordsFitWhereNamed, RecordsFitNarrower, WiderReadsAlike};
+ghost use Rattle.coll_table.specs.RecordLaws.{RecordsFitWhereNamed, RecordsFitNarrower, WiderNumberedAlike, WiderReadsAlike};
 ghost use Rattle.coll_table.specs.RecordLaws.{UndonePutIn};
 
 /// Turning a record that fits gives a table, and turning it again gives back the first.
@@ -34,6 +34,11 @@ pub fn lemma_records_fit_narrower()
 /// A table that extends another one reads as that.
 pub fn lemma_wider_tables_read_alike()
     ensures { WiderReadsAlike }
+{}
+
+/// The places of a table's entries are those of each table that extends it, and the other way round.
+pub fn lemma_wider_tables_are_numbered_alike()
+    ensures { WiderNumberedAlike }
 {}
 
 /// An undone record puts in nodes that are loose, each once.
