@@ -1,3 +1,4 @@
+pub mod Followed
 pub mod Histories
 pub mod HistoryFaults
 pub mod Kept

@@ -9,9 +9,10 @@
 ghost use Rattle.std.specs.Prelude.{◌≡◌, ◌≢◌, ◌↔◌, ◌<◌, ◌≤◌, ◌+◌, [], length, reverse, slice_get, vec_len};
 ghost use Rattle.std.specs.Prelude.{vec_capacity, option_copied, IsOk, IsTrue, Ok, Err, IfOk, IfErr, OnOk, OnErr};
 ghost use Rattle.coll_syntax.specs.Proper.{IsProper};
-ghost use Rattle.coll_table.specs.Record.{AreLoose, Extends, dropped_nodes, more_steps, without_nodes};
+ghost use Rattle.coll_table.specs.Record.{AreLoose, Extends, Fits, dropped_nodes, more_steps, turn, without_nodes};
 ghost use Rattle.coll_nodes.specs.TableLayout.{collation};
 ghost use Rattle.coll_history.specs.Kept.{added_by_all, statements_of};
+ghost use Rattle.coll_history.specs.Followed.{AreNumbersWhere};
 ghost use Rattle.coll_history.specs.Limits.{most_remaining};
 ghost use Rattle.coll_history.specs.declared.history_faults.BenchFault.TheVariants.{HistoryFull};
 ghost use Rattle.coll_history.specs.Histories.{History, begun, judged, taken_back, put_again, undo_steps};
@@ -21,8 +22,9 @@ use crate::history_faults::BenchFault;
 use crate::limits::MOST_REMAINING;
 use coll_syntax::Statement;
 use coll_table::{
-    Record, Table, lemma_records_fit_narrower, lemma_records_fit_wider, lemma_records_turn_back,
-    lemma_undone_records_put_in, lemma_wider_tables_read_alike,
+    EntryNumbers, Record, Table, lemma_records_fit_narrower, lemma_records_fit_wider,
+    lemma_records_turn_back, lemma_undone_records_put_in, lemma_wider_tables_are_numbered_alike,
+    lemma_wider_tables_read_alike,
 };
 use std::alloc::{AllocError, Global};
 use std::marker::Model;
@@ -84,6 +86,28 @@ impl Session {
         ensures refused { IfErr result (λ fault. RefusesStatement self.old.history statement fault) }
         ensures unchanged { OnErr result (self.new ≡ self.old) }
     {
+        let mut none = EntryNumbers::new(*self.undone.allocator());
+        let count = self.statement_followed(statement, &mut none, &mut false)?;
+        Ok(count)
+    }
+
+    /// The same, and has places of entries that were said to be those of the table follow an accepted statement: they are those of the
+    /// table now, if they are still said to be. They take no memory.
+    pub fn statement_followed(
+        &mut self,
+        statement: Statement,
+        numbers: &mut EntryNumbers,
+        fresh: &mut bool,
+    ) -> Result<u32, BenchFault>
+        requires proper { IsProper statement }
+        requires places { AreNumbersWhere fresh.old numbers.old self.old.layout }
+        ensures accepted { IfOk result (λ _. judged self.old.history statement ≡ Ok self.new.history) }
+        ensures count { IfOk result (λ n. n ≡ length self.new.history.remaining) }
+        ensures full { most_remaining ≤ length self.old.history.remaining → result ≡ Err HistoryFull }
+        ensures refused { IfErr result (λ fault. RefusesStatement self.old.history statement fault) }
+        ensures unchanged { OnErr result (self.new ≡ self.old) }
+        ensures places { AreNumbersWhere fresh.new numbers.new self.new.layout }
+    {
         if self.remaining.len() >= MOST_REMAINING {
             drop(statement);
             return Err(BenchFault::HistoryFull);
@@ -96,6 +120,7 @@ impl Session {
         lemma_records_fit_wider();
         lemma_records_fit_narrower();
         lemma_wider_tables_read_alike();
+        lemma_wider_tables_are_numbered_alike();
         lemma_undone_records_put_in();
         self.table.lemma_well_formed();
         let change = match self.table.apply(&statement) {
@@ -106,6 +131,7 @@ impl Session {
             }
         };
         self.table.lemma_well_formed();
+        follow(&self.table, &change, numbers, fresh);
         self.remaining.push_reserved(Kept { statement, change });
         give_up(&mut self.table, &mut self.undone);
         self.table.lemma_well_formed();
@@ -124,12 +150,33 @@ impl Session {
         ensures refused { IfErr result (λ fault. taken_back self.old.history ≡ Err fault) }
         ensures unchanged { OnErr result (self.new ≡ self.old) }
     {
+        let mut none = EntryNumbers::new(*self.undone.allocator());
+        let count = self.undo_followed(&mut none, &mut false)?;
+        Ok(count)
+    }
+
+    /// The same, and has places of entries that were said to be those of the table follow: they are those of the table now, if they are
+    /// still said to be.
+    pub fn undo_followed(
+        &mut self,
+        numbers: &mut EntryNumbers,
+        fresh: &mut bool,
+    ) -> Result<u32, BenchFault>
+        requires { AreNumbersWhere fresh.old numbers.old self.old.layout }
+        ensures undone { IfOk result (λ _. taken_back self.old.history ≡ Ok self.new.history) }
+        ensures count { IfOk result (λ n. n ≡ length self.new.history.remaining) }
+        ensures steps { OnOk result (self.new.steps ≡ more_steps self.old.steps (undo_steps self.old.history)) }
+        ensures refused { IfErr result (λ fault. taken_back self.old.history ≡ Err fault) }
+        ensures unchanged { OnErr result (self.new ≡ self.old) }
+        ensures places { AreNumbersWhere fresh.new numbers.new self.new.layout }
+    {
         let Some(mut kept) = self.remaining.pop() else {
             return Err(BenchFault::NothingToUndo);
         };
         self.table.lemma_well_formed();
         lemma_records_turn_back();
         self.table.flip(&mut kept.change);
+        follow(&self.table, &kept.change, numbers, fresh);
         self.undone.push_reserved(kept);
         Ok(self.remaining.len() as u32)
     }
@@ -145,12 +192,33 @@ impl Session {
         ensures refused { IfErr result (λ fault. put_again self.old.history ≡ Err fault) }
         ensures unchanged { OnErr result (self.new ≡ self.old) }
     {
+        let mut none = EntryNumbers::new(*self.undone.allocator());
+        let count = self.redo_followed(&mut none, &mut false)?;
+        Ok(count)
+    }
+
+    /// The same, and has places of entries that were said to be those of the table follow: they are those of the table now, if they are
+    /// still said to be.
+    pub fn redo_followed(
+        &mut self,
+        numbers: &mut EntryNumbers,
+        fresh: &mut bool,
+    ) -> Result<u32, BenchFault>
+        requires { AreNumbersWhere fresh.old numbers.old self.old.layout }
+        ensures redone { IfOk result (λ _. put_again self.old.history ≡ Ok self.new.history) }
+        ensures count { IfOk result (λ n. n ≡ length self.new.history.remaining) }
+        ensures steps { OnOk result (self.new.steps ≡ more_steps self.old.steps (redo_steps self.old.history)) }
+        ensures refused { IfErr result (λ fault. put_again self.old.history ≡ Err fault) }
+        ensures unchanged { OnErr result (self.new ≡ self.old) }
+        ensures places { AreNumbersWhere fresh.new numbers.new self.new.layout }
+    {
         let Some(mut kept) = self.undone.pop() else {
             return Err(BenchFault::NothingToRedo);
         };
         self.table.lemma_well_formed();
         lemma_records_turn_back();
         self.table.flip(&mut kept.change);
+        follow(&self.table, &kept.change, numbers, fresh);
         self.remaining.push_reserved(kept);
         Ok(self.remaining.len() as u32)
     }
@@ -206,6 +274,17 @@ impl Session {
             undone: _,
         } = self;
         table
+    }
+}
+
+// Has places of entries follow a record that was turned, where they are said to be those of the table before.
+fn follow(table: &Table, change: &Record, numbers: &mut EntryNumbers, fresh: &mut bool)
+    requires fits { Fits table.now change.now }
+    requires places { AreNumbersWhere fresh.old numbers.old (turn table.now change.now).layout }
+    ensures { AreNumbersWhere fresh.new numbers.new table.now.layout }
+{
+    if *fresh {
+        *fresh = table.follow(change, numbers);
     }
 }
 

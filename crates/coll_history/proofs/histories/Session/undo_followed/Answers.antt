@@ -8,7 +8,7 @@ use Rattle.coll_history.specs.declared.histories.Kept.{Kept}
 use Rattle.coll_history.specs.Withdrawing.{IsTurned}
 use Rattle.coll_history.proofs.HistoryLemmas.{nothing_left, taken_back_none, Leads-last}
 use Rattle.coll_history.proofs.HistorySteps.{fits_counted, is_turned, leads_shorter, leads_on_longer, history_undone, steps_undone}
-use Rattle.coll_history.proofs.histories.Session.undo.Goals as goal
+use Rattle.coll_history.proofs.histories.Session.undo_followed.Goals as goal
 
 pub returns-in_default-clause-refused : goal.returns-in_default-clause-refused
 returns-in_default-clause-refused c =

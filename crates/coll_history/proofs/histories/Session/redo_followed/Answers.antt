@@ -8,7 +8,7 @@ use Rattle.coll_history.specs.declared.histories.Kept.{Kept}
 use Rattle.coll_history.specs.Withdrawing.{IsTurned}
 use Rattle.coll_history.proofs.HistoryLemmas.{nothing_left, put_again_none}
 use Rattle.coll_history.proofs.HistorySteps.{fits_counted, is_turned, leads_next, leads_longer, leads_on_shorter, history_redone, steps_redone}
-use Rattle.coll_history.proofs.histories.Session.redo.Goals as goal
+use Rattle.coll_history.proofs.histories.Session.redo_followed.Goals as goal
 
 pub returns-in_default-clause-refused : goal.returns-in_default-clause-refused
 returns-in_default-clause-refused c =
