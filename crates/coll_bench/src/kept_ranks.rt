@@ -5,21 +5,29 @@
 //! the table is served by the places of the entries, which are given anew in a much shorter pass, and it looks up what the text asks
 //! for and no more. Such a look costs more by itself: where those since the last change have together more than 64 characters, and
 //! one more for each 32 entries, the ranks are made after all. What is kept is true of one table as it stands
-//! (`specs/Ranked.antt`); whoever changes the table gives it up.
+//! (`specs/Ranked.antt`). A statement, an undo and a redo go by it, so that the places follow them where that is told by the nodes
+//! that changed; whoever changes the table otherwise gives all up.
 
-ghost use Rattle.std.specs.Prelude.{◌≡◌, ◌≢◌, ◌+◌, ◌||◌, true, false, chars, length, IsSome, IfOk, IfErr, OnOk};
+ghost use Rattle.std.specs.Prelude.{◌≡◌, ◌≢◌, ◌≤◌, ◌+◌, ◌||◌, true, false, chars, length, None, Ok, Err, IsSome, IfOk, IfErr, OnOk, OnErr};
+ghost use Rattle.coll_syntax.specs.Proper.{IsProper};
 ghost use Rattle.coll_nodes.specs.TableLayout.{collation};
 ghost use Rattle.coll_key.specs.KeyLimits.{is_too_long};
 ghost use Rattle.coll_key.specs.SortKey.{key_of};
 ghost use Rattle.coll_key.specs.TextOrder.{order_of};
 ghost use Rattle.coll_key.specs.WrittenKey.{has_key_form};
 ghost use Rattle.coll_key.specs.declared.key_faults.KeyFault.TheVariants.{OutOfMemory};
+ghost use Rattle.coll_table.specs.Record.{more_steps};
+ghost use Rattle.coll_history.specs.Limits.{most_remaining};
+ghost use Rattle.coll_history.specs.declared.history_faults.BenchFault.TheVariants.{HistoryFull};
+ghost use Rattle.coll_history.specs.Histories.{judged, taken_back, put_again, undo_steps, redo_steps, table_now, RefusesStatement};
 ghost use Rattle.coll_bench.specs.Ranked.{AreNumbersIf, AreRanksIfAny, CanServe, IsKeptFor, given_up};
 ghost use Rattle.coll_bench.specs.Ranked.{kept_nothing, looked_after, with_look};
 
+use coll_history::{BenchFault, Session};
 use coll_key::{KeyFault, compare, compare_texts, key, key_of_text};
 use coll_lookups::EntryNumbers;
 use coll_ranks::Ranks;
+use coll_syntax::Statement;
 use coll_table::Table;
 use std::alloc::{AllocError, Global};
 use std::cmp::Ordering;
@@ -72,6 +80,65 @@ impl KeptRanks {
         keep(&mut self.ranks, None);
         self.numbered = false;
         self.looked = 0;
+    }
+
+    /// Has a session judge a statement. Where it is accepted, the ranks are given up, and the places follow it as far as that goes.
+    pub(crate) fn statement(
+        &mut self,
+        session: &mut Session,
+        statement: Statement,
+    ) -> Result<u32, BenchFault>
+        requires proper { IsProper statement }
+        requires kept { IsKeptFor self.old (table_now session.old.history) session.old.layout }
+        ensures kept { IsKeptFor self.new (table_now session.new.history) session.new.layout }
+        ensures ranks { OnOk result (self.new.ranks ≡ None) }
+        ensures looked { OnOk result (self.new.looked ≡ 0) }
+        ensures accepted { IfOk result (λ _. judged session.old.history statement ≡ Ok session.new.history) }
+        ensures count { IfOk result (λ n. n ≡ length session.new.history.remaining) }
+        ensures full { most_remaining ≤ length session.old.history.remaining → result ≡ Err HistoryFull }
+        ensures refused { IfErr result (λ fault. RefusesStatement session.old.history statement fault) }
+        ensures unchanged { OnErr result (session.new ≡ session.old) }
+    {
+        let count = session.statement_followed(statement, &mut self.numbers, &mut self.numbered)?;
+        keep(&mut self.ranks, None);
+        self.looked = 0;
+        Ok(count)
+    }
+
+    /// Has a session take its last statement back. The ranks are then given up, and the places follow it as far as that goes.
+    pub(crate) fn undo(&mut self, session: &mut Session) -> Result<u32, BenchFault>
+        requires { IsKeptFor self.old (table_now session.old.history) session.old.layout }
+        ensures kept { IsKeptFor self.new (table_now session.new.history) session.new.layout }
+        ensures ranks { OnOk result (self.new.ranks ≡ None) }
+        ensures looked { OnOk result (self.new.looked ≡ 0) }
+        ensures undone { IfOk result (λ _. taken_back session.old.history ≡ Ok session.new.history) }
+        ensures count { IfOk result (λ n. n ≡ length session.new.history.remaining) }
+        ensures steps { OnOk result (session.new.steps ≡ more_steps session.old.steps (undo_steps session.old.history)) }
+        ensures refused { IfErr result (λ fault. taken_back session.old.history ≡ Err fault) }
+        ensures unchanged { OnErr result (session.new ≡ session.old) }
+    {
+        let count = session.undo_followed(&mut self.numbers, &mut self.numbered)?;
+        keep(&mut self.ranks, None);
+        self.looked = 0;
+        Ok(count)
+    }
+
+    /// Has a session put a statement again. The ranks are then given up, and the places follow it as far as that goes.
+    pub(crate) fn redo(&mut self, session: &mut Session) -> Result<u32, BenchFault>
+        requires { IsKeptFor self.old (table_now session.old.history) session.old.layout }
+        ensures kept { IsKeptFor self.new (table_now session.new.history) session.new.layout }
+        ensures ranks { OnOk result (self.new.ranks ≡ None) }
+        ensures looked { OnOk result (self.new.looked ≡ 0) }
+        ensures redone { IfOk result (λ _. put_again session.old.history ≡ Ok session.new.history) }
+        ensures count { IfOk result (λ n. n ≡ length session.new.history.remaining) }
+        ensures steps { OnOk result (session.new.steps ≡ more_steps session.old.steps (redo_steps session.old.history)) }
+        ensures refused { IfErr result (λ fault. put_again session.old.history ≡ Err fault) }
+        ensures unchanged { OnErr result (session.new ≡ session.old) }
+    {
+        let count = session.redo_followed(&mut self.numbers, &mut self.numbered)?;
+        keep(&mut self.ranks, None);
+        self.looked = 0;
+        Ok(count)
     }
 
     /// The sort key of a text in the table that this is kept for.

@@ -1,8 +1,9 @@
 //! A session with what is kept beside its table for keys and comparisons.
 //!
-//! Ranks, and places of entries, are made where a key or an order is asked for, kept over commands and refusals, and given up with
-//! each change of the table: an accepted statement, an undo, a redo, a withdrawal. Whoever adds a call that changes the table gives
-//! them up there. Contracts see what they see of the session, and nothing that is kept.
+//! Ranks, and places of entries, are made where a key or an order is asked for, and kept over commands and refusals. With each change
+//! of the table the ranks are given up: an accepted statement, an undo, a redo, a withdrawal. The places follow the first three as
+//! far as that goes, and are given up with a withdrawal. Whoever adds a call that changes the table gives both up there. Contracts
+//! see what they see of the session, and nothing that is kept.
 
 ghost use Rattle.std.specs.Prelude.{◌≡◌, ◌≢◌, ◌≤◌, ◌||◌, true, false, chars, length, IsTrue, IfOk, IfErr, OnOk, OnErr};
 ghost use Rattle.coll_syntax.specs.Proper.{IsProper};
@@ -72,8 +73,7 @@ impl RankedSession {
         ensures refused { IfErr result (λ fault. RefusesStatement self.old.history statement fault) }
         ensures unchanged { OnErr result (self.new ≡ self.old) }
     {
-        let count = self.session.statement(statement)?;
-        self.kept.give_up();
+        let count = self.kept.statement(&mut self.session, statement)?;
         Ok(count)
     }
 
@@ -87,8 +87,7 @@ impl RankedSession {
         ensures refused { IfErr result (λ fault. taken_back self.old.history ≡ Err fault) }
         ensures unchanged { OnErr result (self.new ≡ self.old) }
     {
-        let count = self.session.undo()?;
-        self.kept.give_up();
+        let count = self.kept.undo(&mut self.session)?;
         Ok(count)
     }
 
@@ -102,8 +101,7 @@ impl RankedSession {
         ensures refused { IfErr result (λ fault. put_again self.old.history ≡ Err fault) }
         ensures unchanged { OnErr result (self.new ≡ self.old) }
     {
-        let count = self.session.redo()?;
-        self.kept.give_up();
+        let count = self.kept.redo(&mut self.session)?;
         Ok(count)
     }
 
