@@ -39,6 +39,10 @@ const FEW_CHARACTERS: usize = 64;
 // For so many entries of the table it is one character more: it is looked up in some half of the time that their ranks take.
 const ENTRIES_A_CHARACTER: usize = 32;
 
+// For so many entries of the table one character may be looked up by way of one change that the places have followed: giving them
+// anew takes some four times as long.
+const ENTRIES_A_MOVE: usize = 8;
+
 /// The ranks of a table, if they were made, and the places of its entries.
 #[derive(Drop)]
 pub(crate) struct KeptRanks {
@@ -215,7 +219,7 @@ impl KeptRanks {
         match self.short_look(table, characters, others) {
             Some(looked) => {
                 self.looked = looked;
-                give_numbers(table, &mut self.numbers, &mut self.numbered)?;
+                give_numbers(table, &mut self.numbers, &mut self.numbered, looked)?;
                 Ok(())
             }
             None => {
@@ -265,19 +269,27 @@ fn make_ranks(alloc: Global, table: &Table, ranks: &mut Option<Ranks>) -> Result
     Ok(())
 }
 
-// Gives the entries of a table their places, unless these are fresh.
+// Whether so many characters are looked up by places at less cost than these are given anew: those that have followed changes are
+// told by way of each.
+fn are_quick(table: &Table, numbers: &EntryNumbers, characters: usize) -> bool {
+    characters.saturating_mul(numbers.moves()) <= table.len() / ENTRIES_A_MOVE
+}
+
+// Gives the entries of a table their places, unless these are fresh, and quick for so many characters.
 fn give_numbers(
     table: &Table,
     numbers: &mut EntryNumbers,
     numbered: &mut bool,
+    characters: usize,
 ) -> Result<(), AllocError>
     requires { AreNumbersIf numbered.old numbers.old table.now.layout }
     ensures kept { AreNumbersIf numbered.new numbers.new table.now.layout }
     ensures ok { OnOk result (numbered.new ≡ true) }
 {
-    if *numbered {
+    if *numbered && are_quick(table, numbers, characters) {
         return Ok(());
     }
+    *numbered = false;
     table.number_entries(numbers)?;
     *numbered = true;
     Ok(())

@@ -112,6 +112,11 @@ impl EntryNumbers {
         true
     }
 
+    /// How many moves are kept, by which each number is told: it is seen in time alone, and no clause says it.
+    pub fn moves(&self) -> usize {
+        self.moves.len()
+    }
+
     /// Makes room for moves, before all numbers are given anew: nothing is known of them until then. It takes no memory, and lets
     /// none go.
     pub fn begin_anew(&mut self) {
