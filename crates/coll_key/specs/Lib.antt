@@ -4,6 +4,7 @@ pub mod KeyFaults
 pub mod KeyLimits
 pub mod LevelList
 pub mod ListingParts
+pub mod RowKeys
 pub mod SortKey
 pub mod TextOrder
 pub mod WrittenKey

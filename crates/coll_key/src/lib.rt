@@ -8,6 +8,7 @@
 //! - `forward_numbers`: the numbers of a text at a forward level, one after another (`ForwardNumbers`);
 //! - `keys`, `comparison` and `written_keys`: what they are for (`SortKey`, `TextOrder`, `WrittenKey`);
 //! - `text_keys`: keys and comparison of short texts, by a table whose entries are numbered;
+//! - `row_keys`: keys by rows that a caller keeps (`RowKeys`);
 //! - `listing`: the compiled listing (`CompiledListing`, `ListingParts`);
 //! - `key_faults` and `limits`: why a text has no key (`KeyFaults`, `KeyLimits`).
 #![tactic(auto)]
@@ -20,6 +21,7 @@ mod keys;
 mod levels;
 mod limits;
 mod listing;
+mod row_keys;
 mod text_keys;
 mod written_keys;
 
@@ -30,5 +32,6 @@ pub use key_faults::KeyFault;
 pub use keys::{key, keys_are_ordered_as_texts};
 pub use limits::{MOST_TEXT_CHARACTERS, RANK_STEP, is_too_long, limits_are_stated};
 pub use listing::write_compiled;
+pub use row_keys::key_by_rows;
 pub use text_keys::{compare_texts, key_of_text};
 pub use written_keys::write_key;

@@ -1,6 +1,8 @@
 pub mod DeclaredLemmas
 pub mod KeyedAnew
 pub mod LeadLemmas
+pub mod LetterLemmas
+pub mod LetterOrders
 pub mod ListedLemmas
 pub mod NeighbourLemmas
 pub mod OrderedWords

@@ -1,6 +1,7 @@
 pub mod Declaring
 pub mod KeyedWords
 pub mod LedWords
+pub mod LetterWeights
 pub mod ListedWords
 pub mod MovedWords
 pub mod Neighbours
@@ -12,5 +13,6 @@ pub mod ReviewSteps
 pub mod Reviews
 pub mod SortRuns
 pub mod SortedWords
+pub mod WordOrders
 pub mod WordReading
 pub mod Words

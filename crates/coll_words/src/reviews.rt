@@ -13,6 +13,7 @@ ghost use Rattle.coll_words.specs.ReviewLines.{review_line};
 use crate::kept_bytes::KeptBytes;
 use crate::listed_words::{ListedWord, sort_anew};
 use crate::review_lines::{write_counts, write_told, write_unmoved};
+use crate::word_orders::Looks;
 use coll_bench::{Fault, RunFault, TakesStatements};
 use coll_devices::{Sink, WriteStop, write_bytes};
 use coll_lex::LexFault;
@@ -28,6 +29,8 @@ pub(crate) struct Review {
     table: Table,
     // The words, in the order of the table.
     list: Vec<ListedWord>,
+    // What the words are compared by.
+    looks: Looks,
     // How many statements were put.
     count: u32,
     // What is told of them.
@@ -46,6 +49,7 @@ impl Review {
             alloc,
             table,
             list,
+            looks: Looks::new(alloc),
             count: 0,
             told: KeptBytes::new(alloc),
         }
@@ -91,7 +95,7 @@ impl TakesStatements for Review {
                 Err(_) => Err(no_memory(input, at.line)),
             };
         }
-        if let Err(_) = sort_anew(self.alloc, &self.table, &mut self.list) {
+        if let Err(_) = sort_anew(self.alloc, &self.table, &mut self.looks, &mut self.list) {
             return Err(no_memory(input, at.line));
         }
         match write_told(&mut self.told, number, &at.statement, self.list.as_slice()) {

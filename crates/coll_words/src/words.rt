@@ -51,6 +51,7 @@ impl Word {
     ghost use Rattle.coll_key.specs.TextOrder.{list_order};
     ghost use Rattle.coll_key.specs.declared.key_faults.KeyFault.TheVariants.{OutOfMemory};
     ghost use Rattle.coll_words.specs.KeyedWords.{IsKeyed};
+    ghost use Rattle.coll_words.specs.PackedKeys.{packed_key};
 
     /// The word of a text, with its key by a table, in new memory.
     ///
@@ -63,7 +64,16 @@ impl Word {
         ensures err { IfErr result (λ fault. fault ≢ OutOfMemory → is_too_long (chars text.now) ≡ true) }
     {
         let numbers = key(alloc, table, ranks, text)?;
-        let key = packed_key(alloc, &numbers)?;
+        let word = Word::with_key(alloc, &numbers, text)?;
+        Ok(word)
+    }
+
+    /// The word of a text, with this key, in new memory.
+    pub(crate) fn with_key(alloc: Global, numbers: &[u64], text: &str) -> Result<Word, AllocError>
+        ensures text { IfOk result (λ word. word.text ≡ chars text.now) }
+        ensures key { IfOk result (λ word. word.key ≡ packed_key numbers.now) }
+    {
+        let key = packed_key(alloc, numbers)?;
         let text = TextBuf::copied(alloc, text)?;
         let lead = lead_of(&key);
         Ok(Word { text, lead, key })

@@ -13,7 +13,7 @@ use Rattle.coll_words.proofs.reviews.ReviewTakesStatements.put.Goals as goal
 
 pub returns-in-Ok-clause-reaches : goal.returns-in-Ok-clause-reaches
 returns-in-Ok-clause-reaches c = λ start before leads.
-    let new : Review = record { alloc = c.args.self.now.alloc; table = c.put.new.self; list = c.args.self.now.list; count = c.in-Some.number; told = c.write_unmoved.new.out } in
+    let new : Review = record { alloc = c.args.self.now.alloc; table = c.put.new.self; list = c.args.self.now.list; looks = c.args.self.now.looks; count = c.in-Some.number; told = c.write_unmoved.new.out } in
     leads_on start c.args.self.now new before c.args.at.now leads
     (puts_declared c.args.self.now new c.args.at.now
     (judged_well c.args.input c.args.at.now.line (delta (collation c.args.self.now.table) c.args.at.now.statement) (collation c.put.new.self) c.in_default-put.ensures.ok)
@@ -21,7 +21,7 @@ returns-in-Ok-clause-reaches c = λ start before leads.
 
 pub returns-in-Ok-write_told-clause-reaches : goal.returns-in-Ok-write_told-clause-reaches
 returns-in-Ok-write_told-clause-reaches c = λ start before leads.
-    let new : Review = record { alloc = c.args.self.now.alloc; table = c.put.new.self; list = c.sort_anew.new.list; count = c.in-Some.number; told = c.write_told.new.out } in
+    let new : Review = record { alloc = c.args.self.now.alloc; table = c.put.new.self; list = c.sort_anew.new.list; looks = c.sort_anew.new.looks; count = c.in-Some.number; told = c.write_told.new.out } in
     leads_on start c.args.self.now new before c.args.at.now leads
     (puts_sorted c.args.self.now new c.args.at.now
     (judged_well c.args.input c.args.at.now.line (delta (collation c.args.self.now.table) c.args.at.now.statement) (collation c.put.new.self) c.in_default-put.ensures.ok)

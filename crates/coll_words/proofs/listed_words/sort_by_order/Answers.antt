@@ -4,7 +4,7 @@ use Rattle.coll_nodes.specs.TableLayout.{collation}
 use Rattle.coll_words.specs.ListedWords.{led_by}
 use Rattle.coll_words.specs.declared.listed_words.ListedWord.{ListedWord}
 use Rattle.coll_words.proofs.ListedLemmas.{anew_in_order, length_led, take_front}
-use Rattle.coll_words.proofs.listed_words.sort_by_ranks.Goals as goal
+use Rattle.coll_words.proofs.listed_words.sort_by_order.Goals as goal
 
 pub returns-then-branch : goal.returns-then-branch
 returns-then-branch c =

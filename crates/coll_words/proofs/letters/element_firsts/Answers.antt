@@ -1,0 +1,30 @@
+-- Each declaration is looked at, down to the last.
+use Rattle.std.proofs.Common.{◌≡◌, ◌∷◌, ℕ, List, All, None, refl, sym, ap, subst, ◌∙◌}
+use Rattle.std.specs.List.{flat_map}
+use Rattle.std.proofs.lemmas.List.Elements.{All-tail}
+use Rattle.coll_nodes.specs.TableLayout.{collation}
+use Rattle.coll_nodes.specs.WalkItems.{declared_by}
+use Rattle.coll_nodes.specs.declared.declarations.Declaration.{Declaration}
+use Rattle.coll_elements.specs.Elements.{element_placed, element_text, longest}
+use Rattle.coll_elements.specs.TableElements.{HasString}
+use Rattle.coll_elements.proofs.TableElementLemmas.{have_strings}
+use Rattle.coll_words.proofs.LetterLemmas.{none_of_more}
+use Rattle.coll_words.proofs.letters.element_firsts.Goals as goal
+
+pub declared-init : goal.declared-init
+declared-init c = record {
+  some = subst (All HasString) (sym c.declared-left.ensures) (have_strings _ c.lemma_well_formed.ensures.well_formed.built.texts);
+  so_far = λ d rest none later. subst (λ (ds : List Declaration). longest element_text (flat_map (element_placed (collation c.args.table.now)) ds) (d ∷ rest) ≡ None) c.declared-left.ensures later;
+}
+
+pub declared-preserved : goal.declared-preserved
+declared-preserved c = record {
+  some = All-tail HasString (declared_by c.in-Some.item) c.next.new.self (subst (All HasString) c.in-Some.ensures.steps c.declared.invariant.some);
+  so_far = λ d rest none later. c.declared.invariant.so_far d rest (c.in_ok-put_first.ensures.others d none)
+      (subst (λ (ds : List Declaration). longest element_text (flat_map (element_placed (collation c.args.table.now)) ds) (d ∷ rest) ≡ None) (sym c.in-Some.ensures.steps)
+      (none_of_more (collation c.args.table.now) d rest (declared_by c.in-Some.item) c.next.new.self (c.in_ok-put_first.ensures.apart d none) later));
+}
+
+pub returns : goal.returns
+returns c = λ d none rest. c.declared.invariant.so_far d rest none
+    (ap (λ (ds : List Declaration). longest element_text (flat_map (element_placed (collation c.args.table.now)) ds) (d ∷ rest)) c.in_default.ensures.steps.0)

@@ -1,0 +1,234 @@
+//! What words are compared by behind a statement.
+//!
+//! Where words are their characters, the rows of these serve, which are few, and the table's entries are only numbered anew. Where
+//! they aren't, the ranks of the whole table are made.
+
+ghost use Rattle.std.specs.Prelude.{◌≡◌, chars, true, IfOk, IfSome};
+ghost use Rattle.coll_nodes.specs.TableLayout.{collation};
+ghost use Rattle.coll_key.specs.SortKey.{key_of};
+ghost use Rattle.coll_key.specs.TextOrder.{order_of};
+ghost use Rattle.coll_words.specs.WordOrders.{AreApart, MayServe, Serves};
+ghost use Rattle.coll_words.specs.declared.word_orders.WordOrder.TheVariants.{ByLetters};
+
+use crate::letter_weights::LetterWeights;
+use crate::letters::{Letters, element_firsts, stand_alone};
+use crate::listed_words::ListedWord;
+use coll_elements::CodePoints;
+use coll_key::{
+    EntryNumbers, KeyFault, Ranks, compare, compare_texts, is_too_long, key, key_of_text,
+};
+use coll_table::Table;
+use std::alloc::{AllocError, Global};
+use std::cmp::Ordering;
+
+// How many characters of words have rows of their own, whatever the table.
+const FEW_LETTERS: usize = 64;
+
+// For so many entries of the table it is one more.
+const ENTRIES_A_LETTER: usize = 32;
+
+/// What is kept for a list of words from statement to statement.
+#[derive(Drop)]
+pub(crate) struct Looks {
+    // The characters of the words, once these were looked at.
+    letters: Option<Letters>,
+    // The places of the table's entries when they were given last. Their memory is kept.
+    numbers: EntryNumbers,
+}
+
+/// The rows of characters, and what serves a word that has another one.
+#[derive(Drop)]
+pub(crate) struct LetterOrder<'a> {
+    /// The rows.
+    pub weights: LetterWeights,
+    /// The places of the characters.
+    pub places: &'a CodePoints,
+    /// The places of the table's entries.
+    pub numbers: &'a EntryNumbers,
+}
+
+/// What words are compared by.
+#[derive(Drop)]
+pub(crate) enum WordOrder<'a> {
+    /// The ranks of the whole table.
+    ByRanks(Ranks),
+    /// The rows of the characters of the words.
+    ByLetters(LetterOrder<'a>),
+}
+
+impl Looks {
+    /// Nothing is kept yet. It takes no memory.
+    pub fn new(alloc: Global) -> Looks {
+        Looks {
+            letters: None,
+            numbers: EntryNumbers::new(alloc),
+        }
+    }
+}
+
+/// What the words of a list are compared by in a table.
+pub(crate) fn word_order<'a>(
+    alloc: Global,
+    table: &Table,
+    looks: &'a mut Looks,
+    list: &[ListedWord],
+) -> Result<WordOrder<'a>, AllocError>
+    ensures { IfOk result (λ order. Serves order table.now) }
+{
+    let serves = look_at_letters(alloc, table, &mut looks.letters, list)?;
+    if serves {
+        if let Some(letters) = &looks.letters {
+            let order = letter_order(alloc, table, letters, &mut looks.numbers)?;
+            return Ok(WordOrder::ByLetters(order));
+        }
+    }
+    let ranks = Ranks::new(alloc, table)?;
+    Ok(WordOrder::ByRanks(ranks))
+}
+
+// The rows of characters, none of which begins an element.
+fn letter_order<'a>(
+    alloc: Global,
+    table: &Table,
+    letters: &'a Letters,
+    numbers: &'a mut EntryNumbers,
+) -> Result<LetterOrder<'a>, AllocError>
+    requires { MayServe (collation table.now) letters.now }
+    ensures { IfOk result (λ order. Serves (ByLetters order) table.now) }
+{
+    table.number_entries(numbers)?;
+    let weights = LetterWeights::new(alloc, table, numbers, letters.text.as_str())?;
+    Ok(LetterOrder {
+        weights,
+        places: &letters.places,
+        numbers,
+    })
+}
+
+// Whether words are compared by their characters in a table. These are gathered where they weren't, or where one of them may begin an
+// element now.
+fn look_at_letters(
+    alloc: Global,
+    table: &Table,
+    kept: &mut Option<Letters>,
+    list: &[ListedWord],
+) -> Result<bool, AllocError>
+    ensures { IfOk result (λ serves. serves ≡ true → IfSome kept.new (MayServe (collation table.now))) }
+{
+    if are_incomplete(kept) {
+        return Ok(false);
+    }
+    let firsts = element_firsts(alloc, table)?;
+    if !are_apart(kept, &firsts) {
+        let letters = Letters::of(alloc, list, &firsts, most_letters(table))?;
+        drop(kept.replace(letters));
+    }
+    let serves = are_apart(kept, &firsts);
+    Ok(serves)
+}
+
+// Whether characters were gathered, and one was left out.
+fn are_incomplete(kept: &Option<Letters>) -> bool {
+    match kept {
+        Some(letters) => !letters.all,
+        None => false,
+    }
+}
+
+// Whether characters were gathered, none was left out, and none begins an element by these numbers.
+fn are_apart(kept: &Option<Letters>, firsts: &CodePoints) -> bool
+    ensures { result ≡ true → IfSome kept.now (AreApart firsts.now) }
+{
+    match kept {
+        Some(letters) => serve(letters, firsts),
+        None => false,
+    }
+}
+
+// The same of characters that were gathered.
+fn serve(letters: &Letters, firsts: &CodePoints) -> bool
+    ensures { result ≡ true → AreApart firsts.now letters.now }
+{
+    if !letters.all {
+        return false;
+    }
+    let text = letters.text.as_str();
+    if is_too_long(text) {
+        return false;
+    }
+    stand_alone(text, firsts)
+}
+
+// How many characters of words have rows of their own.
+fn most_letters(table: &Table) -> usize {
+    FEW_LETTERS + table.len() / ENTRIES_A_LETTER
+}
+
+/// The order of two words.
+pub(crate) fn order_of_words(
+    alloc: Global,
+    table: &Table,
+    order: &WordOrder<'_>,
+    text: &str,
+    other: &str,
+) -> Result<Ordering, KeyFault>
+    requires { Serves order.now table.now }
+    ensures { IfOk result (λ order. order ≡ order_of (collation table.now) (chars text.now) (chars other.now)) }
+{
+    match order {
+        WordOrder::ByRanks(ranks) => compare(alloc, table, ranks, text, other),
+        WordOrder::ByLetters(letters) => order_by_letters(alloc, table, letters, text, other),
+    }
+}
+
+// The same, by the rows of characters.
+fn order_by_letters(
+    alloc: Global,
+    table: &Table,
+    letters: &LetterOrder<'_>,
+    text: &str,
+    other: &str,
+) -> Result<Ordering, KeyFault>
+    requires { Serves (ByLetters letters.now) table.now }
+    ensures { IfOk result (λ order. order ≡ order_of (collation table.now) (chars text.now) (chars other.now)) }
+{
+    match letters
+        .weights
+        .order(alloc, table, letters.places, text, other)?
+    {
+        Some(order) => Ok(order),
+        None => compare_texts(alloc, table, letters.numbers, text, other),
+    }
+}
+
+/// The sort key of a word.
+pub(crate) fn key_of_word(
+    alloc: Global,
+    table: &Table,
+    order: &WordOrder<'_>,
+    text: &str,
+) -> Result<Vec<u64>, KeyFault>
+    requires { Serves order.now table.now }
+    ensures { IfOk result (λ key. key.items ≡ key_of (collation table.now) (chars text.now)) }
+{
+    match order {
+        WordOrder::ByRanks(ranks) => key(alloc, table, ranks, text),
+        WordOrder::ByLetters(letters) => key_by_letters(alloc, table, letters, text),
+    }
+}
+
+// The same, by the rows of characters.
+fn key_by_letters(
+    alloc: Global,
+    table: &Table,
+    letters: &LetterOrder<'_>,
+    text: &str,
+) -> Result<Vec<u64>, KeyFault>
+    requires { Serves (ByLetters letters.now) table.now }
+    ensures { IfOk result (λ key. key.items ≡ key_of (collation table.now) (chars text.now)) }
+{
+    match letters.weights.key(alloc, table, letters.places, text)? {
+        Some(key) => Ok(key),
+        None => key_of_text(alloc, table, letters.numbers, text),
+    }
+}
