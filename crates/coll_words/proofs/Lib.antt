@@ -9,6 +9,7 @@ pub mod OrderedWords
 pub mod PackedOrder
 pub mod ReviewCases
 pub mod ReviewLemmas
+pub mod SeenWords
 pub mod SortCases
 pub mod SortedLemmas
 pub mod TextWords
