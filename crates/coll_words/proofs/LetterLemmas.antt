@@ -25,7 +25,9 @@ use Rattle.coll_ranks.specs.WeightNumbers.{numbers_at}
 use Rattle.coll_ranks.specs.declared.text_elements.ElementRow.{ElementRow}
 use Rattle.coll_ranks.specs.declared.text_elements.TextElement.{TextElement}
 use Rattle.coll_ranks.proofs.LevelRows.{rows_of_elements}
-use Rattle.coll_key.proofs.KeyOrder.{All-first, All-others}
+use Rattle.coll_nodes.specs.WellFormed.{IsWellFormed}
+use Rattle.coll_key.proofs.KeyOrder.{All-first, All-others, keys_in_order}
+use Rattle.coll_key.specs.SortKey.{key_of}
 use Rattle.coll_key.specs.LevelList.{items, items_of, level_list, level_lists_from, listed}
 use Rattle.coll_key.specs.TextOrder.{first_difference, level_lists, list_order, order_of}
 use Rattle.coll_words.specs.LetterWeights.{BeginsOther, BeginsPlain, DecidesAtEnd, DecidesFirst, GoesOn, IsFirstLetter, IsLetterRow, IsRowOf, IsStep, IsStepAtEnd, IsStepOfBoth, StandsAlone, first_numbers, text_numbers}
@@ -318,3 +320,12 @@ begins_unmarked c first marked old rest later text is none begins_so =
     (λ on here. absurd (omega (arith, here, none)))
     (λ off here. refl)
     is
+
+same_list : (ns : List ℕ) → list_order ns ns ≡ Equal
+same_list [] = refl
+same_list (n ∷ ns) = ap (λ (o : Ordering). ordering_then o (list_order ns ns)) (sym (nat_cmp_is n n Equal refl)) ∙ same_list ns
+
+-- the same texts are equal
+pub same_texts : (table : Collation) → IsWellFormed table → (text other : List ℕ) → text ≡ other → Equal ≡ order_of table text other
+same_texts table well text other same =
+    sym (ap (order_of table text) (sym same) ∙ sym (keys_in_order table well text text) ∙ same_list (key_of table text))
