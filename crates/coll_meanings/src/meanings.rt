@@ -7,7 +7,7 @@
 
 use crate::SourceStatement;
 use coll_lex::{TextBuf, is_name};
-use coll_lookups::HashKeys;
+use coll_lookups::{HashKeys, WordKeys};
 use coll_nodes::{DeclaredItem, MOST_DECLARATIONS};
 use coll_sources::{
     Adjustment, Declaration, Lost, NameRange, Report, Said, SourceFault, SourceLine, SourcePlace,
@@ -41,9 +41,9 @@ struct Known {
 /// All names that are declared.
 #[derive(Drop)]
 pub struct Meanings {
-    names: IndexMap<String, Known, HashKeys>,
+    names: IndexMap<String, Known, WordKeys>,
     // The name of the element of each string.
-    strings: IndexMap<String, TextBuf, HashKeys>,
+    strings: IndexMap<String, TextBuf, WordKeys>,
     declared: Vec<SourceStatement>,
     alloc: Global,
 }
@@ -52,8 +52,8 @@ impl Meanings {
     /// Nothing is declared yet.
     pub fn new(alloc: Global, keys: HashKeys) -> Meanings {
         Meanings {
-            names: IndexMap::with_hasher(alloc, keys),
-            strings: IndexMap::with_hasher(alloc, keys),
+            names: IndexMap::with_hasher(alloc, WordKeys::new(keys)),
+            strings: IndexMap::with_hasher(alloc, WordKeys::new(keys)),
             declared: Vec::new(alloc),
             alloc,
         }
