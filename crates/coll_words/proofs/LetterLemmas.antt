@@ -1,5 +1,5 @@
 -- What the characters of texts weigh decides their order.
-use Rattle.std.proofs.Common.{◌≡◌, ℕ, zero, suc, ◌+◌, ◌<◌, ◌≤◌, ◌&&◌, ◌==◌, Bool, true, false, if◌then◌else◌, List, [], ◌∷◌, ◌++◌, length, map, Option, None, Some, All, chars, refl, sym, ap, subst, ◌∙◌, append_assoc, arith, drop, get_or}
+use Rattle.std.proofs.Common.{◌≡◌, ℕ, zero, suc, ◌+◌, ◌<◌, ◌&&◌, ◌==◌, Bool, true, false, if◌then◌else◌, List, [], ◌∷◌, ◌++◌, length, map, Option, None, Some, All, chars, refl, sym, ap, subst, ◌∙◌, append_assoc, arith, drop, get_or}
 use Rattle.std.specs.List.{flat_map}
 use Rattle.std.specs.Ordering.{is_ne, nat_cmp, ordering_then}
 use Rattle.std.specs.declared.cmp.Ordering.{Ordering}
@@ -8,7 +8,6 @@ use Rattle.std.specs.Cmp.{nat_cmp_is}
 use Rattle.std.proofs.lemmas.List.{map-append}
 use Rattle.std.proofs.lemmas.List.Elements.{All-append, All-cons, All-nil}
 use Rattle.std.proofs.lemmas.Str.{chars-nil}
-use Rattle.coll_syntax.specs.declared.identifiers.Id.{Id}
 use Rattle.coll_syntax.specs.declared.identifiers.Id.TheVariants.{Char}
 use Rattle.coll_syntax.specs.declared.rules.Rule.{Rule}
 use Rattle.coll_nodes.specs.Table.{Collation}
@@ -30,7 +29,7 @@ use Rattle.coll_key.proofs.KeyOrder.{All-first, All-others, keys_in_order}
 use Rattle.coll_key.specs.SortKey.{key_of}
 use Rattle.coll_key.specs.LevelList.{items, items_of, level_list, level_lists_from, listed}
 use Rattle.coll_key.specs.TextOrder.{first_difference, level_lists, list_order, order_of}
-use Rattle.coll_words.specs.LetterWeights.{BeginsOther, BeginsPlain, DecidesAtEnd, DecidesFirst, GoesOn, IsFirstLetter, IsLetterRow, IsRowOf, IsStep, IsStepAtEnd, IsStepOfBoth, StandsAlone, first_numbers, text_numbers}
+use Rattle.coll_words.specs.LetterWeights.{BeginsOther, BeginsPlain, DecidesFirst, GoesOn, IsFirstLetter, IsLetterRow, IsRowOf, IsStep, IsStepAtEnd, IsStepOfBoth, StandsAlone, first_numbers, text_numbers}
 use Rattle.coll_words.specs.declared.letter_weights.FirstLetter.{FirstLetter}
 use Rattle.coll_words.specs.declared.letter_weights.LetterRow.{LetterRow}
 use Rattle.coll_words.specs.declared.letter_weights.LetterStep.{LetterStep}

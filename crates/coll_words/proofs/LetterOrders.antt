@@ -1,5 +1,5 @@
 -- Characters that no element begins with serve a table.
-use Rattle.std.proofs.Common.{◌≡◌, ℕ, zero, List, [], ◌∷◌, Option, None, Some, ap, chars, map, refl}
+use Rattle.std.proofs.Common.{◌≡◌, ℕ, zero, List, [], ◌∷◌, Option, None, Some, ap, map, refl}
 use Rattle.std.specs.Prelude.{IfSome, slice_index_or}
 use Rattle.coll_nodes.specs.Table.{Collation}
 use Rattle.coll_words.specs.LetterWeights.{StandsAlone}

@@ -1,5 +1,5 @@
 -- Each character has the row of its element.
-use Rattle.std.proofs.Common.{◌≡◌, ◌<◌, List, arith, chars, get_or, length, ap, sym, ◌∙◌, rules, subst}
+use Rattle.std.proofs.Common.{◌≡◌, arith, chars, get_or, ap, ◌∙◌, rules}
 use Rattle.coll_nodes.specs.TableLayout.{collation}
 use Rattle.coll_ranks.specs.LevelWeights.{row_of}
 use Rattle.coll_ranks.specs.RankLists.{WeightsValue}

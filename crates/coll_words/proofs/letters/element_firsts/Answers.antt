@@ -1,5 +1,5 @@
 -- Each declaration is looked at, down to the last.
-use Rattle.std.proofs.Common.{◌≡◌, ◌∷◌, ℕ, List, All, None, refl, sym, ap, subst, ◌∙◌}
+use Rattle.std.proofs.Common.{◌≡◌, ◌∷◌, List, All, None, sym, ap, subst}
 use Rattle.std.specs.List.{flat_map}
 use Rattle.std.proofs.lemmas.List.Elements.{All-tail}
 use Rattle.coll_nodes.specs.TableLayout.{collation}

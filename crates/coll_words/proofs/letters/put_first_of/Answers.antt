@@ -1,7 +1,6 @@
 -- The first character is marked, and what isn't marked is another one.
 use Rattle.std.proofs.Common.{arith, ap, length}
-use Rattle.std.proofs.Common.{◌∷◌, ◌∙◌, chars}
-use Rattle.coll_elements.specs.Elements.{begins_with}
+use Rattle.std.proofs.Common.{chars}
 use Rattle.coll_words.proofs.LetterLemmas.{begins_unmarked}
 use Rattle.coll_words.proofs.letters.put_first_of.Goals as goal
 

@@ -1,5 +1,5 @@
 -- Each character in turn, up to the last.
-use Rattle.std.proofs.Common.{◌≡◌, ◌∷◌, [], ℕ, zero, All, arith, chars, subst, sym, ◌∙◌}
+use Rattle.std.proofs.Common.{◌≡◌, ◌∷◌, [], ℕ, zero, All, arith, subst, sym, ◌∙◌}
 use Rattle.std.specs.Prelude.{slice_index_or}
 use Rattle.std.proofs.lemmas.Iterator.{YieldsList-from_chars}
 use Rattle.std.proofs.lemmas.Iterator.Consumers.{YieldsList-end}

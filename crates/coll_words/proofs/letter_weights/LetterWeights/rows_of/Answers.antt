@@ -1,10 +1,8 @@
 -- The row of the character at hand is kept.
-use Rattle.std.proofs.Common.{◌≡◌, ◌∷◌, ◌++◌, ◌∙◌, [], ℕ, List, length, map, chars, sym, ap, append_assoc, append-nil, arith, rules}
-use Rattle.std.proofs.lemmas.List.{map-append, length-append}
+use Rattle.std.proofs.Common.{◌∷◌, ◌++◌, ◌∙◌, [], ℕ, List, length, map, sym, ap, append-nil, arith, rules}
+use Rattle.std.proofs.lemmas.List.{length-append}
 use Rattle.coll_nodes.specs.TableLayout.{collation}
 use Rattle.coll_ranks.specs.LevelWeights.{row_numbers}
-use Rattle.coll_ranks.specs.declared.text_elements.ElementRow.{ElementRow}
-use Rattle.coll_words.specs.LetterWeights.{text_numbers}
 use Rattle.coll_words.proofs.LetterLemmas.{no_numbers, one_row_more}
 use Rattle.std.proofs.lemmas.Bool.{eqb-true}
 use Rattle.std.proofs.lemmas.List.{nil_from_length}
