@@ -215,7 +215,7 @@ word_chars special (b ∷ bs) h =
     ascii_first b bs (word_byte special b parts.0).ascii ∙ ap (λ cs. b ∷ cs) (word_chars special bs parts.1)
 
 -- a word, byte by byte
-word_run_taken : (special : Chars) (s : Scan) (word rest : List ℕ) → s.mode ≡ mode.Plain → s.escaped ≡ false → list_all (is_word_byte special) word ≡ true
+pub word_run_taken : (special : Chars) (s : Scan) (word rest : List ℕ) → s.mode ≡ mode.Plain → s.escaped ≡ false → list_all (is_word_byte special) word ≡ true
     → TakesRun special s (word ++ rest) (record s { partial = s.partial ++ word }) rest
 word_run_taken special s [] rest m e h = rw (append-nil s.partial) (run_none special s rest)
 word_run_taken special s (b ∷ bs) rest m e h =
@@ -286,7 +286,7 @@ separator_byte escape b h =
     record { is = separator_is b parts.0; no_escape = other }
 
 -- the state with the word so far made a token
-abbrev closed : Scan → Scan
+abbrev pub closed : Scan → Scan
 closed s = record s { partial = []; tokens = s.tokens ++ word_token s.partial }
 
 closed_same : (s : Scan) → s.partial ≡ [] → closed s ≡ s
@@ -298,7 +298,7 @@ no_bracket b h = grind (arith, nat_tests)
 blank_ascii : (b : ℕ) → is_blank b ≡ true → nat_lt b 128 ≡ true
 blank_ascii b h = grind (arith, nat_tests)
 
-blank_run : (special : Chars) (s : Scan) (b : ℕ) (rest : List ℕ) → s.mode ≡ mode.Plain → s.escaped ≡ false → is_blank b ≡ true → b ≢ special.escape → TakesRun special s (b ∷ rest) (closed s) rest
+pub blank_run : (special : Chars) (s : Scan) (b : ℕ) (rest : List ℕ) → s.mode ≡ mode.Plain → s.escaped ≡ false → is_blank b ≡ true → b ≢ special.escape → TakesRun special s (b ∷ rest) (closed s) rest
 blank_run special s b rest m e blank h = run_one special s (closed s) b rest (blank_ascii b blank) e h (blank_outside special.comment s b m (no_bracket b blank) blank)
 
 -- the state with a separator put behind the word so far
@@ -537,7 +537,7 @@ pub comment_taken : (special : Chars) (s : Scan) (text : List ℕ) → s.mode �
 unfolding reading_left
 comment_taken special s text m = record { reads = λ ms. rw m refl; ends = inr (m, refl) }
 
-word_small : (special : Chars) (word : List ℕ) (i : ℕ) → list_all (is_word_byte special) word ≡ true → get_or word i 0 < 128
+pub word_small : (special : Chars) (word : List ℕ) (i : ℕ) → list_all (is_word_byte special) word ≡ true → get_or word i 0 < 128
 word_small special [] i h = omega arith
 word_small special (b ∷ bs) zero h = below b (word_byte special b (and_parts (is_word_byte special b) (list_all (is_word_byte special) bs) h).0).ascii
 word_small special (b ∷ bs) (suc i) h = word_small special bs i (and_parts (is_word_byte special b) (list_all (is_word_byte special) bs) h).1

@@ -21,6 +21,10 @@ number_sign = 35
 abbrev pub comma : ℕ
 comma = 44
 
+-- `-`, which joins the parts of a keyword
+abbrev pub hyphen : ℕ
+hyphen = 45
+
 -- `/`, under which spellings are read back
 abbrev pub slash : ℕ
 slash = 47

@@ -15,4 +15,5 @@ pub mod ReadingBack
 pub mod Runs
 pub mod Scanning
 pub mod Spelling
+pub mod SymbolLines
 pub mod Tokens

@@ -8,6 +8,8 @@ ghost use Rattle.std.specs.Prelude.{◌≡◌, IsUtf8, IfOk, IfErr};
 ghost use Rattle.coll_lex.specs.LogicalLines.{line_of};
 ghost use Rattle.coll_lex.specs.Names.{LinesHaveTokens, LexersHoldText};
 
+mod symbol_lines;
+
 use crate::category::begins_category;
 use crate::directives::directive;
 use crate::scanning::Scan;

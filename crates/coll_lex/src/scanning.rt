@@ -20,6 +20,7 @@ mod word;
 
 use crate::buffers::Gathered;
 use crate::{Chars, LexFault, ListBuf, Piece, Token};
+pub(crate) use runs::name_length;
 use std::alloc::Global;
 
 /// Where in a line the scan is.

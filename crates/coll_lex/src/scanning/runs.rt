@@ -36,8 +36,8 @@ fn is_word_byte(special: Chars, byte: u8) -> bool
     is_letter(byte) && c != special.escape && c != special.comment
 }
 
-// How many bytes at the front are of a name.
-fn name_length(escape: char, bytes: &[u8]) -> usize
+/// How many bytes at the front are of a name.
+pub(crate) fn name_length(escape: char, bytes: &[u8]) -> usize
     ensures within { result ≤ length bytes.now }
     ensures plain { list_all (is_name_byte escape) (take result bytes.now) ≡ true }
 {
