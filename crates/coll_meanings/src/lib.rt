@@ -6,7 +6,7 @@
 //! by tests alone. A way through the crate:
 //!
 //! - `source_statements`: what is made of the lines of a source, with its place (`LeftOut`);
-//! - `meanings`: what each name of a source means, and what is declared;
+//! - `meanings`, with `table_meanings`: what each name of a source means, and what is declared, over a table that is tailored or over none;
 //! - `ellipses`, with `order_lines`: the characters between two order lines;
 //! - `weights`: weights by what is placed.
 #![tactic(auto)]
@@ -15,10 +15,12 @@ mod ellipses;
 mod meanings;
 mod order_lines;
 mod source_statements;
+mod table_meanings;
 mod weights;
 
 pub use ellipses::{Ellipses, Run};
 pub use meanings::Meanings;
 pub use order_lines::{OrderLines, put_line, put_range};
 pub use source_statements::{SourceStatement, lose_statement, proper_line};
-pub use weights::{WeightLookUp, without_symbol_weights};
+pub use table_meanings::TableMeanings;
+pub use weights::{TableLookUp, WeightLookUp, without_symbol_weights, without_weights_of_symbol};

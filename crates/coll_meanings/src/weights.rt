@@ -1,6 +1,7 @@
 //! The weights of an entry, by what is placed and by own names.
 
 use crate::meanings::Meanings;
+use crate::table_meanings::TableMeanings;
 use coll_lex::ListBuf;
 use coll_lookups::IdSet;
 use coll_sources::{Adjustment, Lost, Report, SourceFault, SourcePlace};
@@ -28,11 +29,56 @@ impl WeightLookUp<'_> {
         line: OrderLine,
         report: &mut Report,
     ) -> Result<OrderLine, SourceFault> {
+        self.without_table().line(place, line, report)
+    }
+
+    /// Whether all that weights name is placed, and stands for nothing else.
+    pub fn all_stay(&self, weights: &[Weight]) -> bool {
+        self.without_table().all_stay(weights)
+    }
+
+    // The same, over a table that isn't there.
+    fn without_table(&self) -> TableLookUp<'_, 'static> {
+        TableLookUp {
+            meanings: self.meanings.names(),
+            placed: self.placed,
+            levels: self.levels,
+            alloc: self.alloc,
+        }
+    }
+}
+
+/// What weights are looked up in, over a table that is tailored.
+#[derive(Clone, Copy)]
+pub struct TableLookUp<'a, 't> {
+    /// What names mean.
+    pub meanings: &'a TableMeanings<'t>,
+    /// What is placed beside what the table places.
+    pub placed: &'a IdSet,
+    /// How many weights an entry may have.
+    pub levels: usize,
+    /// Where weights take memory.
+    pub alloc: Global,
+}
+
+impl TableLookUp<'_, '_> {
+    /// An order line whose weights name what is placed, and no more than there are levels.
+    pub fn line(
+        &self,
+        place: SourcePlace,
+        line: OrderLine,
+        report: &mut Report,
+    ) -> Result<OrderLine, SourceFault> {
         let OrderLine { id, weights } = line;
         match weights {
             Some(weights) => self.with_weights(place, id, weights.into_items(), report),
             None => Ok(OrderLine { id, weights: None }),
         }
+    }
+
+    /// Whether an identifier is placed.
+    pub fn is_placed(&self, id: &Id) -> bool {
+        self.placed.contains(id) || self.meanings.table_places(id)
     }
 
     // An order line with these weights, which name what is placed then, and are no more than there are levels.
@@ -107,7 +153,7 @@ impl WeightLookUp<'_> {
 
     // Whether an identifier stays as it is: it is placed, and stands for nothing else.
     fn stays(&self, id: &Id) -> bool {
-        self.placed.contains(id) && self.meanings.other(id).is_none()
+        self.is_placed(id) && self.meanings.stands_for_itself(id)
     }
 
     // The weight of these identifiers by what they stand for, without those that are placed nowhere; of none it ignores the entry.
@@ -120,7 +166,7 @@ impl WeightLookUp<'_> {
         let mut kept = Vec::new(self.alloc);
         for id in ids {
             let id = self.meanings.resolved(id.clone()?)?;
-            if self.placed.contains(&id) {
+            if self.is_placed(&id) {
                 kept.push(id)?;
             } else {
                 report.lose(Adjustment::UnplacedInWeight, place, Lost::Id(id))?;
@@ -136,6 +182,16 @@ impl WeightLookUp<'_> {
 /// An order line without the weights of a symbol, which has none: these are left out, and this is told.
 pub fn without_symbol_weights(
     meanings: &Meanings,
+    place: SourcePlace,
+    line: OrderLine,
+    report: &mut Report,
+) -> Result<OrderLine, SourceFault> {
+    without_weights_of_symbol(meanings.names(), place, line, report)
+}
+
+/// The same, where a table is tailored.
+pub fn without_weights_of_symbol(
+    meanings: &TableMeanings<'_>,
     place: SourcePlace,
     line: OrderLine,
     report: &mut Report,

@@ -2,13 +2,16 @@
 //!
 //! A block is gathered line by line, cut where a statement can't go on, and made a statement where it ends. It is known at each step
 //! what is placed by then, so each statement is one that the table accepts, in its turn: what it would refuse is left out, and told.
+//! The table itself says what it places, so only what the statements place beside it is kept.
 //! A rule on what may stand in a block is a case of `in_block`; one on weights belongs to `WeightLookUp`.
 
 use crate::later_weights::{LaterWeights, LineAt};
 use crate::steps::{Step, StepAt};
 use coll_lex::ListBuf;
 use coll_lookups::{HashKeys, IdSet};
-use coll_meanings::{Meanings, SourceStatement, WeightLookUp, proper_line, without_symbol_weights};
+use coll_meanings::{
+    SourceStatement, TableLookUp, TableMeanings, proper_line, without_weights_of_symbol,
+};
 use coll_sources::{Adjustment, Lost, Report, SourceFault, SourcePlace};
 use coll_syntax::{Id, MOST_BLOCK_LINES, OrderLine, Statement, Weight};
 use std::alloc::{AllocError, Global};
@@ -36,10 +39,10 @@ struct BlockParts {
 
 /// What is known of the table and of the tailoring as a whole.
 #[derive(Drop)]
-pub(crate) struct Known {
+pub(crate) struct Known<'t> {
     /// What names mean.
-    pub(crate) meanings: Meanings,
-    /// What the table and all blocks place.
+    pub(crate) meanings: TableMeanings<'t>,
+    /// What all blocks place.
     pub(crate) expected: IdSet,
     /// How many weights an entry may have.
     pub(crate) levels: usize,
@@ -47,9 +50,9 @@ pub(crate) struct Known {
 
 /// Statements that are being made of steps.
 #[derive(Drop)]
-pub(crate) struct Blocks {
-    known: Known,
-    // What is placed by the table and by the statements made so far.
+pub(crate) struct Blocks<'t> {
+    known: Known<'t>,
+    // What is placed by the statements made so far.
     placed: IdSet,
     block: Option<Block>,
     later: LaterWeights,
@@ -58,18 +61,17 @@ pub(crate) struct Blocks {
     alloc: Global,
 }
 
-impl Blocks {
-    /// No step has been taken. This is known, and this is placed by the table; these statements have been made.
+impl<'t> Blocks<'t> {
+    /// No step has been taken. This is known, and these statements have been made.
     pub(crate) fn new(
         alloc: Global,
         keys: HashKeys,
-        known: Known,
-        placed: IdSet,
+        known: Known<'t>,
         made: Vec<SourceStatement>,
-    ) -> Blocks {
+    ) -> Blocks<'t> {
         Blocks {
             known,
-            placed,
+            placed: IdSet::new(alloc, keys),
             block: None,
             later: LaterWeights::new(alloc, keys),
             made,
@@ -183,14 +185,19 @@ impl Blocks {
         Ok(self.made.push(SourceStatement { place, statement })?)
     }
 
-    // Weights are looked up in this.
-    fn look_up<'a>(&'a self, placed: &'a IdSet) -> WeightLookUp<'a> {
-        WeightLookUp {
+    // Weights are looked up in this, and in what the table places.
+    fn look_up<'a>(&'a self, placed: &'a IdSet) -> TableLookUp<'a, 't> {
+        TableLookUp {
             meanings: &self.known.meanings,
             placed,
             levels: self.known.levels,
             alloc: self.alloc,
         }
+    }
+
+    // Whether an identifier is placed by the table, or by the statements made so far.
+    fn is_placed(&self, id: &Id) -> bool {
+        self.look_up(&self.placed).is_placed(id)
     }
 
     // A block begins, and one that is open ends.
@@ -220,7 +227,7 @@ impl Blocks {
         report: &mut Report,
     ) -> Result<bool, SourceFault> {
         self.close(report)?;
-        if self.placed.contains(target) {
+        if self.is_placed(target) {
             return Ok(false);
         }
         report.lose(Adjustment::TargetUnplaced, place, Lost::Id(target.clone()?))?;
@@ -478,7 +485,7 @@ impl Blocks {
     // Whether an order line gives weights to what is placed.
     fn is_reweight(&self, line: &OrderLine) -> bool {
         line.weights.is_some()
-            && self.placed.contains(&line.id)
+            && self.is_placed(&line.id)
             && !self.known.meanings.is_symbol(&line.id)
     }
 
@@ -501,7 +508,7 @@ impl Blocks {
         line: OrderLine,
         report: &mut Report,
     ) -> Result<Option<OrderLine>, SourceFault> {
-        let line = without_symbol_weights(&self.known.meanings, place, line, report)?;
+        let line = without_weights_of_symbol(&self.known.meanings, place, line, report)?;
         let line = self
             .look_up(&self.known.expected)
             .line(place, line, report)?;

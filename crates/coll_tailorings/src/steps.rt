@@ -2,11 +2,11 @@
 //!
 //! Each line is taken by what stands before it: an order line stands in a block or outside one, or names a section that is moved.
 //! Ellipses are written out, identifiers are what their names mean, and what a block places and nothing declares is declared. After
-//! the last line it is known what the table and all blocks place.
+//! the last line it is known what all blocks place beside the table.
 
 use coll_lex::{LexFault, MOST_LINES, TextBuf};
 use coll_lookups::{HashKeys, IdSet};
-use coll_meanings::{Ellipses, Meanings, OrderLines, put_line, put_range};
+use coll_meanings::{Ellipses, OrderLines, TableMeanings, put_line, put_range};
 use coll_sources::{
     Adjustment, Lost, Report, Said, SourceFault, SourceLine, SourcePlace, Tailoring,
 };
@@ -49,10 +49,10 @@ pub(crate) struct CopyAt {
 
 /// All that the lines of a tailoring say.
 #[derive(Drop)]
-pub(crate) struct Stepped {
+pub(crate) struct Stepped<'t> {
     /// What names mean.
-    pub(crate) meanings: Meanings,
-    /// What the table and all blocks place.
+    pub(crate) meanings: TableMeanings<'t>,
+    /// What all blocks place.
     pub(crate) expected: IdSet,
     /// The names of the tables that are tailored, each once.
     pub(crate) copies: Vec<CopyAt>,
@@ -73,8 +73,8 @@ enum Within {
 
 /// The steps of a tailoring, of which some lines have been taken.
 #[derive(Drop)]
-pub(crate) struct Steps {
-    said: Stepped,
+pub(crate) struct Steps<'t> {
+    said: Stepped<'t>,
     // The names of the tables that are tailored, to be looked up.
     bases: IndexSet<String, HashKeys>,
     within: Within,
@@ -82,13 +82,13 @@ pub(crate) struct Steps {
     alloc: Global,
 }
 
-impl Steps {
-    /// No line has been taken; names mean this, and this is placed.
-    pub(crate) fn new(alloc: Global, keys: HashKeys, meanings: Meanings, placed: IdSet) -> Steps {
+impl<'t> Steps<'t> {
+    /// No line has been taken, and names mean this.
+    pub(crate) fn new(alloc: Global, keys: HashKeys, meanings: TableMeanings<'t>) -> Steps<'t> {
         Steps {
             said: Stepped {
                 meanings,
-                expected: placed,
+                expected: IdSet::new(alloc, keys),
                 copies: Vec::new(alloc),
                 steps: Vec::new(alloc),
             },
@@ -104,7 +104,7 @@ impl Steps {
         mut self,
         lines: Vec<SourceLine>,
         report: &mut Report,
-    ) -> Result<Stepped, SourceFault> {
+    ) -> Result<Stepped<'t>, SourceFault> {
         match self.take_all(lines, report) {
             Ok(()) => Ok(self.into_said()),
             Err(fault) => {
@@ -123,7 +123,7 @@ impl Steps {
     }
 
     // What the lines taken so far say.
-    fn into_said(self) -> Stepped {
+    fn into_said(self) -> Stepped<'t> {
         let Steps {
             said,
             bases,
@@ -417,7 +417,7 @@ impl Steps {
     }
 }
 
-impl OrderLines for Steps {
+impl OrderLines for Steps<'_> {
     fn ellipses(&mut self) -> &mut Ellipses {
         &mut self.ellipses
     }

@@ -1,6 +1,7 @@
 //! A tailoring, made into statements.
 //!
-//! All that a tailoring declares is known before its first order line is looked at, and all that it places before its first weight.
+//! All that a tailoring declares is known before its first order line is looked at, and all that it places before its first weight. What
+//! the table declares and places isn't copied: the table is asked, so a tailoring costs what its own lines take.
 
 ghost use Rattle.std.specs.Prelude.{◌≡◌, ◌≤◌, All, Ok, IfOk, length};
 ghost use Rattle.coll_lex.specs.Limits.{most_lines};
@@ -14,13 +15,12 @@ use crate::blocks::{Blocks, Known};
 use crate::steps::{CopyAt, Stepped, Steps};
 use coll_delta_texts::is_copy_name;
 use coll_lex::TextBuf;
-use coll_lookups::{HashKeys, IdSet};
-use coll_meanings::{Meanings, SourceStatement};
-use coll_nodes::WalkItem;
+use coll_lookups::HashKeys;
+use coll_meanings::{SourceStatement, TableMeanings};
 use coll_sources::{Adjustment, Lost, Report, SourceFault, SourceLine};
 use coll_syntax::Statement;
 use coll_table::Table;
-use std::alloc::{AllocError, Global};
+use std::alloc::Global;
 
 /// What a tailoring is made into.
 #[derive(Drop)]
@@ -81,25 +81,19 @@ fn make(
     report: &mut Report,
 ) -> Result<(Vec<CopyAt>, Vec<SourceStatement>), SourceFault> {
     let said = all_said(alloc, keys, table, lines, report)?;
-    match all_placed(alloc, keys, table) {
-        Ok(placed) => all_made(alloc, keys, table.rules().len(), placed, said, report),
-        Err(error) => {
-            drop(said);
-            Err(SourceFault::from(error))
-        }
-    }
+    all_made(alloc, keys, table.rules().len(), said, report)
 }
 
 // What all lines say.
-fn all_said(
+fn all_said<'t>(
     alloc: Global,
     keys: HashKeys,
-    table: &Table,
+    table: &'t Table,
     lines: Vec<SourceLine>,
     report: &mut Report,
-) -> Result<Stepped, SourceFault> {
-    match first_steps(alloc, keys, table, lines.as_slice(), report) {
-        Ok(steps) => steps.said_by(lines, report),
+) -> Result<Stepped<'t>, SourceFault> {
+    match all_meanings(alloc, keys, table, lines.as_slice(), report) {
+        Ok(meanings) => Steps::new(alloc, keys, meanings).said_by(lines, report),
         Err(fault) => {
             drop(lines);
             Err(fault)
@@ -107,33 +101,15 @@ fn all_said(
     }
 }
 
-// Steps before the first line, where it is known what all names mean, and what the table places.
-fn first_steps(
-    alloc: Global,
-    keys: HashKeys,
-    table: &Table,
-    lines: &[SourceLine],
-    report: &mut Report,
-) -> Result<Steps, SourceFault> {
-    let meanings = all_meanings(alloc, keys, table, lines, report)?;
-    match all_placed(alloc, keys, table) {
-        Ok(placed) => Ok(Steps::new(alloc, keys, meanings, placed)),
-        Err(error) => {
-            drop(meanings);
-            Err(SourceFault::from(error))
-        }
-    }
-}
-
 // What all names mean.
-fn all_meanings(
+fn all_meanings<'t>(
     alloc: Global,
     keys: HashKeys,
-    table: &Table,
+    table: &'t Table,
     lines: &[SourceLine],
     report: &mut Report,
-) -> Result<Meanings, SourceFault> {
-    let mut meanings = Meanings::of_table(alloc, keys, table)?;
+) -> Result<TableMeanings<'t>, SourceFault> {
+    let mut meanings = TableMeanings::new(alloc, keys, table);
     match meanings.take_all(lines, report) {
         Ok(()) => Ok(meanings),
         Err(fault) => {
@@ -143,35 +119,12 @@ fn all_meanings(
     }
 }
 
-// What a table places.
-fn all_placed(alloc: Global, keys: HashKeys, table: &Table) -> Result<IdSet, AllocError> {
-    let mut placed = IdSet::new(alloc, keys);
-    match place_all(&mut placed, table) {
-        Ok(()) => Ok(placed),
-        Err(error) => {
-            drop(placed);
-            Err(error)
-        }
-    }
-}
-
-// Notes what a table places.
-fn place_all(placed: &mut IdSet, table: &Table) -> Result<(), AllocError> {
-    for item in table.walk() {
-        if let WalkItem::Entry(entry) = item {
-            placed.insert(entry.id())?;
-        }
-    }
-    Ok(())
-}
-
-// The copies, and the statements that are made of all steps, for so many levels, where this is placed at first.
+// The copies, and the statements that are made of all steps, for so many levels.
 fn all_made(
     alloc: Global,
     keys: HashKeys,
     levels: usize,
-    placed: IdSet,
-    said: Stepped,
+    said: Stepped<'_>,
     report: &mut Report,
 ) -> Result<(Vec<CopyAt>, Vec<SourceStatement>), SourceFault> {
     let Stepped {
@@ -186,7 +139,7 @@ fn all_made(
         expected,
         levels,
     };
-    match Blocks::new(alloc, keys, known, placed, made).made_of(steps, report) {
+    match Blocks::new(alloc, keys, known, made).made_of(steps, report) {
         Ok(made) => Ok((copies, made)),
         Err(fault) => {
             drop(copies);
