@@ -1,15 +1,18 @@
 -- How a lint ends, by what a batch answers to the texts, and by what writing answered.
-use Rattle.std.proofs.Common.{◌≡◌, inl, inr, ℕ, ◌==◌, ◌||◌, Bool, true, false, if◌then◌else◌, List, [], ◌++◌, Option, Some, None, Result, Ok, Err, refl, sym, ap, ◌∙◌, subst, append-nil}
+use Rattle.std.proofs.Common.{◌≡◌, inl, inr, ℕ, ◌==◌, ◌||◌, Bool, true, false, if◌then◌else◌, List, [], ◌∷◌, ◌++◌, Option, Some, None, Result, Ok, Err, refl, sym, ap, ◌∙◌, subst, append-nil}
 use Rattle.std.specs.Prelude.{IfErr, IfOk}
 use Rattle.std.specs.Io.KnownBytes.{Appends}
 use Rattle.coll_devices.specs.Devices.{Sends}
-use Rattle.coll_bench.specs.BatchReading.{InputsFail, WritesNone}
+use Rattle.coll_nodes.specs.Table.{Collation}
+use Rattle.coll_texts.specs.Reading.{reads}
+use Rattle.coll_bench.specs.BatchOutcome.{unless_faulty, table_or_fault, after_delta, after_deltas, after_inputs}
+use Rattle.coll_bench.specs.BatchReading.{DeltaFails, InputsFail, WritesNone}
 use Rattle.coll_bench.specs.BatchRuns.{Ending, ReadFailed, WriteFailed, Starved, Refused, ending_of}
 use Rattle.coll_bench.specs.Faults.{fault_number}
 use Rattle.coll_bench.specs.Serving.{write_failed}
 use Rattle.coll_bench.specs.declared.faults.RunFault.{RunFault}
 use Rattle.coll_lint.specs.LintLines.{lint_text}
-use Rattle.coll_lint.specs.Lints.{BeginsWith, IsLintOf, JudgesTexts, LintRuns, LintsTexts, TellsFaults, is_at_fault, is_of_no_text}
+use Rattle.coll_lint.specs.Lints.{BeginsWith, IsLintOf, LintRuns, LintsTexts, TellsFaults, is_at_fault, is_of_no_text}
 use Rattle.coll_lint.specs.declared.lints.Lint.{Lint}
 
 -- a kind of fault that is neither of a read, of a write nor of memory
@@ -22,19 +25,63 @@ remaining P false false false none unwritten p = p
 
 -- what reading inputs answers is what is judged, unless it is no fault of theirs
 pub judges : (table_text : List ℕ) (delta_texts : List (List ℕ)) (left_after : Option (List ℕ)) (lefts_after : List (Option (List ℕ))) (ended : RunFault)
-    → InputsFail (ending_of ended) table_text delta_texts left_after lefts_after ended → WritesNone ended → JudgesTexts table_text delta_texts (Err ended)
+    → InputsFail (ending_of ended) table_text delta_texts left_after lefts_after ended → WritesNone ended → is_of_no_text ended ≡ false
+    → after_inputs table_text delta_texts ≡ Err ended
 judges table_text delta_texts left_after lefts_after ended fails unwritten none =
     let n = fault_number ended.fault in
     remaining (λ kind. InputsFail kind table_text delta_texts left_after lefts_after ended) (n == 67) (n == 70) (n == 68) none unwritten fails
 
+-- one delta file over a table
+
+one_delta : (table : Collation) (text : List ℕ) (r : Result Collation RunFault) → after_delta 1 table text ≡ r → after_deltas 1 table (text ∷ []) ≡ r
+unfolding after_deltas
+one_delta table text (Ok changed) e = ap (λ r. unless_faulty r (λ t. after_deltas 2 t [])) e
+one_delta table text (Err ended) e = ap (λ r. unless_faulty r (λ t. after_deltas 2 t [])) e
+
+-- what reading it gives
+pub one_changed : (table changed : Collation) (text : List ℕ) → after_delta 1 table text ≡ Ok changed → after_deltas 1 table (text ∷ []) ≡ Ok changed
+one_changed table changed text e = one_delta table text (Ok changed) e
+
+-- what reading it answers, unless it is no fault of the file
+pub judges_delta : (table : Collation) (text : List ℕ) (left : Option (List ℕ)) (ended : RunFault) → DeltaFails (ending_of ended) 1 table text left ended → WritesNone ended
+    → is_of_no_text ended ≡ false → after_deltas 1 table (text ∷ []) ≡ Err ended
+judges_delta table text left ended fails unwritten none =
+    let n = fault_number ended.fault in
+    one_delta table text (Err ended) (remaining (λ kind. DeltaFails kind 1 table text left ended) (n == 67) (n == 70) (n == 68) none unwritten fails)
+
+-- A table, and then delta files.
+
+given : (r : Result Collation RunFault) (table : Collation) (texts : List (List ℕ)) → unless_faulty r (λ t. after_deltas 1 t []) ≡ Ok table
+    → unless_faulty r (λ t. after_deltas 1 t texts) ≡ after_deltas 1 table texts
+unfolding after_deltas
+given (Ok read) table texts e = let same : read ≡ table = cc in ap (λ t. after_deltas 1 t texts) same
+given (Err ended) table texts e = absurd cc
+
+-- delta files behind a table that its text gives
+pub behind_table : (table_text : List ℕ) (table : Collation) (texts : List (List ℕ)) → after_inputs table_text [] ≡ Ok table → after_inputs table_text texts ≡ after_deltas 1 table texts
+unfolding after_inputs
+behind_table table_text table texts e = given (table_or_fault (reads table_text)) table texts e
+
+faulty : (r : Result Collation RunFault) (ended : RunFault) (texts : List (List ℕ)) → unless_faulty r (λ t. after_deltas 1 t []) ≡ Err ended
+    → unless_faulty r (λ t. after_deltas 1 t texts) ≡ Err ended
+unfolding after_deltas
+faulty (Ok read) ended texts e = absurd cc
+faulty (Err first) ended texts e = e
+
+-- delta files behind a table at fault change nothing
+pub behind_fault : (table_text : List ℕ) (ended : RunFault) (texts : List (List ℕ)) → after_inputs table_text [] ≡ Err ended → after_inputs table_text texts ≡ Err ended
+unfolding after_inputs
+behind_fault table_text ended texts e = faulty (table_or_fault (reads table_text)) ended texts e
+
 -- what is told of texts that give a table
-pub accepted : (table_text : List ℕ) (delta_texts : List (List ℕ)) (r : Result Lint RunFault) → JudgesTexts table_text delta_texts (Ok tt) → IfOk r (λ lint. lint.faults ≡ [])
-    → IfErr r (λ ended. is_of_no_text ended ≡ true) → LintsTexts table_text delta_texts r
-accepted table_text delta_texts (Ok lint) judged none lacks = subst (λ o. TellsFaults o lint.faults) (sym judged.1) none
-accepted table_text delta_texts (Err ended) judged none lacks = lacks
+pub accepted : (table_text : List ℕ) (delta_texts : List (List ℕ)) (r : Result Lint RunFault) (table : Collation) → after_inputs table_text delta_texts ≡ Ok table
+    → IfOk r (λ lint. lint.faults ≡ []) → IfErr r (λ ended. is_of_no_text ended ≡ true) → LintsTexts table_text delta_texts r
+accepted table_text delta_texts (Ok lint) table judged none lacks = subst (λ o. TellsFaults o lint.faults) (sym judged) none
+accepted table_text delta_texts (Err ended) table judged none lacks = lacks
 
 -- what is told of texts that are refused
-pub refused : (table_text : List ℕ) (delta_texts : List (List ℕ)) (first : RunFault) (r : Result Lint RunFault) → JudgesTexts table_text delta_texts (Err first)
+pub refused : (table_text : List ℕ) (delta_texts : List (List ℕ)) (first : RunFault) (r : Result Lint RunFault)
+    → (is_of_no_text first ≡ false → after_inputs table_text delta_texts ≡ Err first)
     → IfOk r (λ lint. is_of_no_text first ≡ false) → IfOk r (λ lint. BeginsWith first lint.faults) → IfErr r (λ ended. is_of_no_text ended ≡ true) → LintsTexts table_text delta_texts r
 refused table_text delta_texts first (Ok lint) judged text begins lacks = subst (λ o. TellsFaults o lint.faults) (sym (judged text)) begins
 refused table_text delta_texts first (Err ended) judged text begins lacks = lacks

@@ -2,7 +2,8 @@
 use Rattle.std.specs.Prelude.{◌≡◌, ◌⊎◌, ◌==◌, ◌||◌, ℕ, Bool, true, false, nat_lt, Option, Some, Result, Ok, Err}
 use Rattle.std.specs.Prelude.{List, [], ◌∷◌, ◌++◌, length}
 use Rattle.coll_nodes.specs.Table.{Collation}
-use Rattle.coll_bench.specs.BatchOutcome.{after_inputs}
+use Rattle.coll_nodes.specs.TableLayout.{TableValue, collation}
+use Rattle.coll_bench.specs.BatchOutcome.{after_deltas, after_inputs}
 use Rattle.coll_bench.specs.Faults.{fault_number}
 use Rattle.coll_bench.specs.Serving.{write_failed}
 use Rattle.coll_bench.specs.declared.faults.RunFault.{RunFault}
@@ -63,7 +64,12 @@ abbrev pub LintsTexts : (table_text : List ℕ) → (delta_texts : List (List �
 LintsTexts table_text delta_texts (Ok lint) = IsLintOf table_text delta_texts lint
 LintsTexts table_text delta_texts (Err ended) = is_of_no_text ended ≡ true
 
--- what a batch answers to texts, unless the fault is none of them
-abbrev pub JudgesTexts : (table_text : List ℕ) → (delta_texts : List (List ℕ)) → Result (Unit {0}) RunFault → Type 0
-JudgesTexts table_text delta_texts (Ok done) = (table : Collation) × (after_inputs table_text delta_texts ≡ Ok table)
-JudgesTexts table_text delta_texts (Err ended) = is_of_no_text ended ≡ false → after_inputs table_text delta_texts ≡ Err ended
+-- what a batch answers to the text of a table, unless the fault is none of it
+abbrev pub JudgesTable : (table_text : List ℕ) → Result TableValue RunFault → Type 0
+JudgesTable table_text (Ok read) = after_inputs table_text [] ≡ Ok (collation read)
+JudgesTable table_text (Err ended) = is_of_no_text ended ≡ false → after_inputs table_text [] ≡ Err ended
+
+-- what a batch answers to a delta file over a table, unless the fault is none of it
+abbrev pub JudgesDelta : Collation → (delta_text : List ℕ) → Result (Unit {0}) RunFault → Type 0
+JudgesDelta table delta_text (Ok done) = (changed : Collation) × (after_deltas 1 table (delta_text ∷ []) ≡ Ok changed)
+JudgesDelta table delta_text (Err ended) = is_of_no_text ended ≡ false → after_deltas 1 table (delta_text ∷ []) ≡ Err ended

@@ -1,25 +1,29 @@
 //! A table, or a delta file over a table, is linted: all that is wrong with it is told, and not only the first fault.
 //!
 //! `lint` carries the theorem of a lint (`LintRuns`). The texts are judged as a batch judges them, and its answer decides whether a
-//! fault is told, and which one first. What else is told is found by a survey, of which no clause speaks.
+//! fault is told, and which one first. What else is told is found by a survey, of which no clause speaks. A table without fault is read
+//! once: the table that the batch gives is the one that is surveyed, and a delta file is judged over a copy of it.
 
-ghost use Rattle.std.specs.Prelude.{◌≡◌, ◌∷◌, [], true, map, string_bytes, option_map, option_to_list, IfOk, IfErr, false};
+ghost use Rattle.std.specs.Prelude.{◌≡◌, ◌∷◌, [], true, Ok, map, string_bytes, option_map, option_to_list, IfOk, IfErr, false};
 ghost use Rattle.coll_devices.specs.Devices.{Sends};
+ghost use Rattle.coll_bench.specs.BatchOutcome.{after_inputs};
 ghost use Rattle.coll_bench.specs.Serving.{write_failed as failed_write};
 ghost use Rattle.coll_lint.specs.LintLines.{lint_text};
-ghost use Rattle.coll_lint.specs.Lints.{BeginsWith, JudgesTexts, LintRuns, LintsTexts, is_at_fault, is_of_no_text as of_no_text};
+ghost use Rattle.coll_lint.specs.Lints.{BeginsWith, JudgesTable, JudgesDelta, LintRuns, LintsTexts, is_at_fault};
+ghost use Rattle.coll_lint.specs.Lints.{is_of_no_text as of_no_text};
+ghost use Rattle.coll_nodes.specs.TableLayout.{collation};
 
 use crate::first_faults::put_first;
 use crate::kept_texts::no_memory;
 use crate::lint_lines::write_lint;
 use crate::lints::Lint;
 use crate::surveyed::told_of;
-use coll_bench::{Fault, RunFault, read_inputs};
+use coll_bench::{Fault, RunFault, read_delta, read_inputs};
 use coll_devices::{Counted, Sink, WriteStop};
 use coll_lex::ListBuf;
 use coll_lookups::HashKeys;
-use coll_surveys::{Surveyed, Told, survey_delta, survey_table};
-use coll_table::load_keyed;
+use coll_surveys::{Told, survey_accepted, survey_delta, survey_table};
+use coll_table::Table;
 use std::alloc::{AllocError, Global};
 
 /// Writes all that is wrong with the text of a table, and with that of a delta file where one is given. The answer is whether they have
@@ -69,35 +73,97 @@ pub fn lint_texts(
 ) -> Result<Lint, RunFault>
     ensures { LintsTexts table.now (option_to_list (option_map (λ text. text.now) delta.entry)) result }
 {
-    match judged(alloc, keys, table, delta) {
-        Ok(()) => lint_if_accepted(alloc, keys, table, delta),
-        Err(first) => lint_if_refused(alloc, keys, first, table, delta),
+    match judged(alloc, keys, table) {
+        Ok(read) => lint_read(alloc, keys, read, table, delta),
+        Err(first) => lint_faulty(alloc, keys, first, table),
     }
 }
 
-// What is told of texts that a batch accepts, unless memory is refused.
-fn lint_if_accepted(
+// What is told of the text of a table that a batch accepts, which gives this table, and of a delta file over it.
+fn lint_read(
     alloc: Global,
     keys: HashKeys,
+    read: Table,
     table: &[u8],
     delta: Option<&[u8]>,
+) -> Result<Lint, RunFault>
+    requires { after_inputs table.now [] ≡ Ok (collation read) }
+    ensures { LintsTexts table.now (option_to_list (option_map (λ text. text.now) delta.entry)) result }
+{
+    match delta {
+        Some(delta) => lint_over(alloc, keys, read, table, delta),
+        None => lint_alone(alloc, keys, read, table),
+    }
+}
+
+// What is told of the text of a table that a batch accepts, which gives this table.
+fn lint_alone(alloc: Global, keys: HashKeys, read: Table, table: &[u8]) -> Result<Lint, RunFault>
+    requires { after_inputs table.now [] ≡ Ok (collation read) }
+    ensures { LintsTexts table.now [] result }
+{
+    let told = survey_read(alloc, keys, read, table);
+    lint_if_accepted(alloc, told)
+}
+
+// What is told of a delta file over a table, which this text gives.
+fn lint_over(
+    alloc: Global,
+    keys: HashKeys,
+    read: Table,
+    table: &[u8],
+    delta: &[u8],
+) -> Result<Lint, RunFault>
+    requires { after_inputs table.now [] ≡ Ok (collation read) }
+    ensures { LintsTexts table.now (delta.now ∷ []) result }
+{
+    match judged_over(alloc, &read, delta) {
+        Ok(()) => lint_accepted_delta(alloc, keys, read, table, delta),
+        Err(first) => lint_faulty_delta(alloc, keys, first, read, table, delta),
+    }
+}
+
+// What is told of a delta file that a batch accepts over this table, unless memory is refused.
+fn lint_accepted_delta(
+    alloc: Global,
+    keys: HashKeys,
+    read: Table,
+    table: &[u8],
+    delta: &[u8],
 ) -> Result<Lint, RunFault>
     ensures none { IfOk result (λ lint. lint.faults ≡ []) }
     ensures memory { IfErr result (λ ended. of_no_text ended ≡ true) }
 {
-    match lint_accepted(alloc, keys, table, delta) {
-        Ok(lint) => Ok(lint),
-        Err(_) => Err(no_memory(0)),
-    }
+    let told = survey_over(alloc, keys, read, table, delta);
+    lint_if_accepted(alloc, told)
 }
 
-// What is told of texts in which a batch answers this fault first, if it is one of them.
-fn lint_if_refused(
+// What is told of a delta file in which a batch answers this fault first, over this table, if it is a fault of the file.
+fn lint_faulty_delta(
+    alloc: Global,
+    keys: HashKeys,
+    first: RunFault,
+    read: Table,
+    table: &[u8],
+    delta: &[u8],
+) -> Result<Lint, RunFault>
+    ensures text { IfOk result (λ lint. of_no_text first ≡ false) }
+    ensures begins { IfOk result (λ lint. BeginsWith first lint.faults) }
+    ensures memory { IfErr result (λ ended. of_no_text ended ≡ true) }
+{
+    if is_of_no_text(&first) {
+        drop(read);
+        return Err(first);
+    }
+    let told = survey_over(alloc, keys, read, table, delta);
+    lint_if_refused(first, told)
+}
+
+// What is told of the text of a table in which a batch answers this fault first, if it is a fault of the text.
+fn lint_faulty(
     alloc: Global,
     keys: HashKeys,
     first: RunFault,
     table: &[u8],
-    delta: Option<&[u8]>,
 ) -> Result<Lint, RunFault>
     ensures text { IfOk result (λ lint. of_no_text first ≡ false) }
     ensures begins { IfOk result (λ lint. BeginsWith first lint.faults) }
@@ -106,8 +172,31 @@ fn lint_if_refused(
     if is_of_no_text(&first) {
         return Err(first);
     }
-    match lint_refused(alloc, keys, first, table, delta) {
-        Ok(lint) => Ok(lint),
+    let told = survey_alone(alloc, keys, table);
+    lint_if_refused(first, told)
+}
+
+// What is told of texts that a batch accepts, by their survey, unless memory was refused: warnings alone.
+fn lint_if_accepted(alloc: Global, told: Result<Told, AllocError>) -> Result<Lint, RunFault>
+    ensures none { IfOk result (λ lint. lint.faults ≡ []) }
+    ensures memory { IfErr result (λ ended. of_no_text ended ≡ true) }
+{
+    match told {
+        Ok(told) => Ok(accepted(alloc, told)),
+        Err(_) => Err(no_memory(0)),
+    }
+}
+
+// What is told of texts in which a batch answers this fault first, by their survey, unless memory was refused.
+fn lint_if_refused(first: RunFault, told: Result<Told, AllocError>) -> Result<Lint, RunFault>
+    ensures begins { IfOk result (λ lint. BeginsWith first lint.faults) }
+    ensures memory { IfErr result (λ ended. of_no_text ended ≡ true) }
+{
+    match told {
+        Ok(told) => match refused(first, told) {
+            Ok(lint) => Ok(lint),
+            Err(_) => Err(no_memory(0)),
+        },
         Err(_) => Err(no_memory(0)),
     }
 }
@@ -120,57 +209,39 @@ fn is_of_no_text(ended: &RunFault) -> bool
     number == 67 || number == 70
 }
 
-// What a batch answers to these texts.
-fn judged(alloc: Global, keys: HashKeys, table: &[u8], delta: Option<&[u8]>) -> Result<(), RunFault>
-    ensures { JudgesTexts table.now (option_to_list (option_map (λ text. text.now) delta.entry)) result }
-{
-    match delta {
-        Some(delta) => judged_over(alloc, keys, table, delta),
-        None => judged_alone(alloc, keys, table),
-    }
-}
-
-// What a batch answers to a table.
-fn judged_alone(alloc: Global, keys: HashKeys, table: &[u8]) -> Result<(), RunFault>
-    ensures { JudgesTexts table.now [] result }
+// What a batch answers to a table, which is the one that it gives.
+fn judged(alloc: Global, keys: HashKeys, table: &[u8]) -> Result<Table, RunFault>
+    ensures { JudgesTable table.now result }
 {
     let mut source = Counted::new(table);
     match read_inputs(alloc, keys, &mut source, &mut []) {
-        Ok(read) => {
-            drop(read);
-            Ok(())
-        }
+        Ok(read) => Ok(read),
         Err(first) => Err(first),
     }
 }
 
-// What a batch answers to a table and a delta file.
-fn judged_over(alloc: Global, keys: HashKeys, table: &[u8], delta: &[u8]) -> Result<(), RunFault>
-    ensures { JudgesTexts table.now (delta.now ∷ []) result }
+// What a batch answers to a delta file over a table. The file rewrites a copy of it.
+fn judged_over(alloc: Global, read: &Table, delta: &[u8]) -> Result<(), RunFault>
+    ensures { JudgesDelta (collation read.now) delta.now result }
 {
-    let mut source = Counted::new(table);
-    let tailoring = Counted::new(delta);
-    match read_inputs(alloc, keys, &mut source, &mut [tailoring]) {
-        Ok(read) => {
-            drop(read);
-            Ok(())
+    match read.try_copy(alloc) {
+        Ok(mut copy) => {
+            let answer = judged_by(alloc, &mut copy, delta);
+            drop(copy);
+            answer
         }
-        Err(first) => Err(first),
+        Err(_) => Err(no_memory(0)),
     }
 }
 
-// What is told of texts that a batch accepts: warnings alone.
-fn lint_accepted(
-    alloc: Global,
-    keys: HashKeys,
-    table: &[u8],
-    delta: Option<&[u8]>,
-) -> Result<Lint, AllocError>
-    ensures { IfOk result (λ lint. lint.faults ≡ []) }
+// What a batch answers to a delta file over a table, which it rewrites.
+fn judged_by(alloc: Global, read: &mut Table, delta: &[u8]) -> Result<(), RunFault>
+    ensures { JudgesDelta (collation read.old) delta.now result }
 {
-    match survey(alloc, keys, table, delta) {
-        Ok(told) => Ok(accepted(alloc, told)),
-        Err(error) => Err(error),
+    let mut source = Counted::new(delta);
+    match read_delta(alloc, 1, read, &mut source) {
+        Ok(()) => Ok(()),
+        Err(first) => Err(first),
     }
 }
 
@@ -190,23 +261,6 @@ fn accepted(alloc: Global, told: Told) -> Lint
         more_faults: None,
         warnings: ListBuf::new(warnings),
         more_warnings,
-    }
-}
-
-// What is told of texts in which a batch answers this fault first. Where it is one of the table, the delta file isn't looked at.
-fn lint_refused(
-    alloc: Global,
-    keys: HashKeys,
-    first: RunFault,
-    table: &[u8],
-    delta: Option<&[u8]>,
-) -> Result<Lint, AllocError>
-    ensures { IfOk result (λ lint. BeginsWith first lint.faults) }
-{
-    let looked_at = if first.input == 0 { None } else { delta };
-    match survey(alloc, keys, table, looked_at) {
-        Ok(told) => refused(first, told),
-        Err(error) => Err(error),
     }
 }
 
@@ -235,31 +289,40 @@ fn refused(first: RunFault, told: Told) -> Result<Lint, AllocError>
     }
 }
 
-// What a survey of a table tells, or of a delta file over it.
-fn survey(
-    alloc: Global,
-    keys: HashKeys,
-    table: &[u8],
-    delta: Option<&[u8]>,
-) -> Result<Told, AllocError> {
-    let surveyed = match delta {
-        Some(delta) => survey_over(alloc, keys, table, delta)?,
-        None => survey_table(alloc, keys, table)?,
-    };
-    told_of(alloc, surveyed, table, delta)
+// What a survey tells of the text of a table that is at fault.
+fn survey_alone(alloc: Global, keys: HashKeys, table: &[u8]) -> Result<Told, AllocError> {
+    told_of(alloc, survey_table(alloc, keys, table)?, table, None)
 }
 
-// What a survey of a delta file gives, over a table that a batch accepts.
+// What a survey tells of the text of a table without fault, which gives this table.
+fn survey_read(
+    alloc: Global,
+    keys: HashKeys,
+    read: Table,
+    table: &[u8],
+) -> Result<Told, AllocError> {
+    told_of(
+        alloc,
+        survey_accepted(alloc, keys, table, read)?,
+        table,
+        None,
+    )
+}
+
+// What a survey tells of a delta file over this table, which the text of a table gives.
 fn survey_over(
     alloc: Global,
     keys: HashKeys,
+    read: Table,
     table: &[u8],
     delta: &[u8],
-) -> Result<Surveyed, AllocError> {
-    match load_keyed(alloc, keys, &mut Counted::new(table)) {
-        Ok(table) => survey_delta(alloc, keys, table, delta),
-        Err(_) => Err(AllocError),
-    }
+) -> Result<Told, AllocError> {
+    told_of(
+        alloc,
+        survey_delta(alloc, keys, read, delta)?,
+        table,
+        Some(delta),
+    )
 }
 
 // A write failed.

@@ -7,10 +7,11 @@
 //! - `findings`: what is told, faults and warnings, and `foreign_words`: keywords of other dialects;
 //! - `collecting`: what is told, as it is gathered; `line_surveys`: the lines of a text, handed on one after another; `subjects`: what
 //!   a fault is about; `unplaced`: what is declared and never placed;
-//! - `table_surveys`, with `table_weights`: a table, line by line;
+//! - `table_surveys`, with `table_weights`: a table, line by line; `accepted_tables`: one without fault;
 //! - `delta_surveys`, with `open_blocks` and `unchanged`: a delta file, statement by statement.
 #![tactic(auto)]
 
+mod accepted_tables;
 mod collecting;
 mod delta_surveys;
 mod findings;
@@ -23,6 +24,7 @@ mod table_weights;
 mod unchanged;
 mod unplaced;
 
+pub use accepted_tables::survey_accepted;
 pub use collecting::{Surveyed, Told};
 pub use delta_surveys::survey_delta;
 pub use findings::{About, FoundFault, WarnedLine, Warning};

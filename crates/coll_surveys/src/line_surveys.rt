@@ -2,8 +2,13 @@
 //!
 //! What a line means is for its taker to say; here physical lines are cut, joined and lexed, as everywhere. A line that the lexer
 //! refuses is told, and the next one begins another logical line. Nothing behind the end of the category is looked at.
+//!
+//! Where only declarations and other keywords are wanted of a text that is known to have no fault, an order line that begins with a
+//! symbol and stands alone is passed over by its first and its last byte, and is only counted (`survey_keywords`).
 
-use coll_lex::{EarlyEnd, LexFault, Lexer, Line, past_blanks, without_return};
+ghost use Rattle.coll_lex.specs.Names.{AreTokens};
+
+use coll_lex::{Chars, EarlyEnd, LexFault, Lexer, Line, past_blanks, without_return};
 use std::alloc::{AllocError, Global};
 
 /// What the first physical line of a logical line begins with, blanks skipped.
@@ -32,6 +37,10 @@ pub(crate) trait TakesLines {
 // Where the lines of a text stand.
 struct Lines {
     lexer: Lexer,
+    // Whether order lines that stand alone are passed over.
+    passes: bool,
+    // How many lines were passed over, which the lexer hasn't counted.
+    passed: u32,
     // Whether the category has begun.
     begun: bool,
     // What the logical line that is open begins with, where one is.
@@ -43,6 +52,8 @@ impl Drop for Lines {
     fn drop(self) {
         let Lines {
             lexer,
+            passes: _,
+            passed: _,
             begun: _,
             opening: _,
         } = self;
@@ -56,14 +67,24 @@ pub(crate) fn survey_lines<T: TakesLines>(
     text: &[u8],
     taker: &mut T,
 ) -> Result<Option<EarlyEnd>, AllocError> {
-    let mut lines = Lines {
-        lexer: Lexer::new(alloc)?,
-        begun: false,
-        opening: Opening::Other,
-    };
+    let mut lines = Lines::new(alloc, false)?;
     let end = lines.hand_on_all(text, taker);
     drop(lines);
     end
+}
+
+/// Hands on the lines of a text without fault, but not all order lines: those that begin with a symbol and are one physical line may be
+/// passed over.
+pub(crate) fn survey_keywords<T: TakesLines>(
+    alloc: Global,
+    text: &[u8],
+    taker: &mut T,
+) -> Result<(), AllocError> {
+    let mut lines = Lines::new(alloc, true)?;
+    let end = lines.hand_on_all(text, taker);
+    drop(lines);
+    let _ = end?;
+    Ok(())
 }
 
 // A text without the line feed at its end, which ends its last line and begins no other.
@@ -79,7 +100,29 @@ fn is_line_feed(byte: &u8) -> bool {
     *byte == b'\n'
 }
 
+// Whether a physical line begins with a symbol, and no escape character at its end continues it.
+fn is_lone_order(special: Chars, line: &[u8]) -> bool {
+    if special.comment == '<' || special.escape == '<' {
+        return false;
+    }
+    match (past_blanks(line).first(), without_return(line).last()) {
+        (Some(b'<'), Some(last)) => last.is_ascii() && char::from(*last) != special.escape,
+        _ => false,
+    }
+}
+
 impl Lines {
+    // No line was handed on yet.
+    fn new(alloc: Global, passes: bool) -> Result<Lines, AllocError> {
+        Ok(Lines {
+            lexer: Lexer::new(alloc)?,
+            passes,
+            passed: 0,
+            begun: false,
+            opening: Opening::Other,
+        })
+    }
+
     // Hands on the lines of a text. Where its category doesn't end, the answer is how the text ends.
     fn hand_on_all<T: TakesLines>(
         &mut self,
@@ -88,7 +131,9 @@ impl Lines {
     ) -> Result<Option<EarlyEnd>, AllocError> {
         if !text.is_empty() {
             for line in without_last_feed(text).split(is_line_feed) {
-                if self.hand_on(line, taker)? {
+                if self.is_passed_over(line) {
+                    self.passed = self.passed.saturating_add(1);
+                } else if self.hand_on(line, taker)? {
                     return Ok(None);
                 }
             }
@@ -96,12 +141,25 @@ impl Lines {
         Ok(Some(self.lexer.early_end(self.begun)))
     }
 
+    // Whether a physical line is passed over.
+    fn is_passed_over(&self, line: &[u8]) -> bool {
+        self.passes
+            && self.begun
+            && self.lexer.pending().is_none()
+            && is_lone_order(self.lexer.chars(), line)
+    }
+
+    // The number of the logical line that the next physical line belongs to.
+    fn next_number(&self) -> u32 {
+        self.lexer.next_number().saturating_add(self.passed)
+    }
+
     // Hands on a physical line, and answers whether it ends the category.
     fn hand_on<T: TakesLines>(&mut self, line: &[u8], taker: &mut T) -> Result<bool, AllocError> {
         if self.begun {
             return self.hand_on_inside(line, taker);
         }
-        let number = self.lexer.next_number();
+        let number = self.next_number();
         match self.lexer.outside(line) {
             Ok(begins) => self.begun = begins,
             Err(fault) => taker.refuse(number, Opening::Other, fault)?,
@@ -115,10 +173,10 @@ impl Lines {
         line: &[u8],
         taker: &mut T,
     ) -> Result<bool, AllocError> {
-        let number = self.lexer.next_number();
+        let number = self.next_number();
         let opening = self.opening_at(line);
         match self.lexer.feed(line) {
-            Ok(Some(whole)) => taker.take(&whole, opening),
+            Ok(Some(whole)) => self.hand_on_whole(whole, opening, taker),
             Ok(None) => {
                 self.opening = opening;
                 Ok(false)
@@ -129,6 +187,22 @@ impl Lines {
                 Ok(false)
             }
         }
+    }
+
+    // Hands on a logical line, with its number among all, and answers whether it ends the category.
+    fn hand_on_whole<T: TakesLines>(
+        &self,
+        whole: Line,
+        opening: Opening,
+        taker: &mut T,
+    ) -> Result<bool, AllocError>
+        requires { AreTokens whole.tokens }
+    {
+        let mut line = whole;
+        line.number = line.number.saturating_add(self.passed);
+        let taken = taker.take(&line, opening);
+        drop(line);
+        taken
     }
 
     // What the logical line begins with that a physical line belongs to.

@@ -1,0 +1,17 @@
+-- What a batch answers to the delta file decides.
+use Rattle.std.proofs.Common.{[], ◌∷◌, ◌∙◌}
+use Rattle.coll_nodes.specs.TableLayout.{collation}
+use Rattle.coll_lint.proofs.LintCases.{accepted, behind_table, refused}
+use Rattle.coll_lint.proofs.linting.lint_over.Goals as goal
+
+pub returns-in-Ok : goal.returns-in-Ok
+returns-in-Ok c =
+    let texts = c.args.delta.now ∷ [] in
+    accepted c.args.table.now texts c.lint_accepted_delta.result c.in-Ok.ensures.0 (behind_table c.args.table.now (collation c.args.read) texts c.requires ∙ c.in-Ok.ensures.1)
+    c.lint_accepted_delta.ensures.none c.lint_accepted_delta.ensures.memory
+
+pub returns-in-Err : goal.returns-in-Err
+returns-in-Err c =
+    let texts = c.args.delta.now ∷ [] in
+    refused c.args.table.now texts c.in-Err.first c.lint_faulty_delta.result (λ none. behind_table c.args.table.now (collation c.args.read) texts c.requires ∙ c.in-Err.ensures none)
+    c.lint_faulty_delta.ensures.text c.lint_faulty_delta.ensures.begins c.lint_faulty_delta.ensures.memory
