@@ -8,7 +8,6 @@ ghost use Rattle.std.specs.Prelude.{◌≡◌, ◌<◌, ◌≤◌, ◌∷◌, []
 ghost use Rattle.coll_devices.specs.Devices.{Sends, Writes};
 ghost use Rattle.coll_nodes.specs.TableLayout.{collation};
 ghost use Rattle.coll_elements.specs.Elements.{elements_of};
-ghost use Rattle.coll_ranks.specs.Ranks.{AreRanksOf};
 ghost use Rattle.coll_key.specs.KeyLimits.{is_too_long};
 ghost use Rattle.coll_key.specs.TextOrder.{order_of};
 ghost use Rattle.coll_bench.specs.BatchOutcome.{fault_in, is_any_too_long};
@@ -17,16 +16,18 @@ ghost use Rattle.coll_explanations.specs.Explaining.{Explains, WritesWhole, star
 ghost use Rattle.coll_explanations.specs.ExplanationLaws.{FirstDifferencesAreTold, OrdersAreOfLevels};
 ghost use Rattle.coll_explanations.specs.ExplanationLaws.{ToldLevelsDecide, ToldNumbersAreListed};
 ghost use Rattle.coll_explanations.specs.Explanations.{apart_at, explanation, explanation_of, level_lines};
+ghost use Rattle.coll_explanations.specs.RankLooks.{Serves};
 ghost use Rattle.coll_explanations.specs.ToldSteps.{apart_of, id_of};
 
 use crate::differences::{Difference, first_difference};
 use crate::level_numbers::LevelNumbers;
 use crate::lines::{write_elements, write_level, write_order};
+use crate::rank_looks::RankLooks;
 use crate::weighing::Weighing;
 use coll_bench::{Fault, RunFault};
 use coll_devices::{Sink, WriteStop};
 use coll_elements::{ElementEntry, split_text};
-use coll_key::{KeyFault, Ranks, compare, is_too_long};
+use coll_key::{KeyFault, is_too_long};
 use coll_syntax::{Id, Rule};
 use coll_table::Table;
 use std::alloc::{AllocError, Global};
@@ -74,36 +75,41 @@ fn explain_short<W: Sink>(
     ensures reads { IfErr result (λ ended. ReadsNone ended) }
     ensures writes { CountsWrites (W.failed output.old) (W.failed output.new) result }
 {
-    match Ranks::new(alloc, table) {
-        Ok(ranks) => {
-            let explained = explain_by_ranks(alloc, table, &ranks, text, other, output);
-            drop(ranks);
+    match RankLooks::new(alloc, table, characters_in(text, other)) {
+        Ok(looks) => {
+            let explained = explain_by(alloc, table, &looks, text, other, output);
+            drop(looks);
             explained
         }
         Err(_) => Err(no_memory()),
     }
 }
 
-// The same by the ranks of the table.
-fn explain_by_ranks<W: Sink>(
+// How many characters two texts have together.
+fn characters_in(text: &str, other: &str) -> usize {
+    text.chars().count().saturating_add(other.chars().count())
+}
+
+// The same by what tells the ranks of the table.
+fn explain_by<W: Sink>(
     alloc: Global,
     table: &Table,
-    ranks: &Ranks,
+    looks: &RankLooks,
     text: &str,
     other: &str,
     output: &mut W,
 ) -> Result<(), RunFault>
     requires short { is_any_too_long (chars text.now ∷ chars other.now ∷ []) ≡ false }
-    requires ranks { AreRanksOf ranks.now (collation table.now) }
+    requires looks { Serves looks.now table.now }
     ensures run { WritesWhole (explanation (collation table.now) (chars text.now) (chars other.now)) (W.taken output.old)
         (W.taken output.new) result }
     ensures input { IfErr result (λ ended. ended.input ≡ 0) }
     ensures reads { IfErr result (λ ended. ReadsNone ended) }
     ensures writes { CountsWrites (W.failed output.old) (W.failed output.new) result }
 {
-    match compare_both(alloc, table, ranks, text, other) {
+    match compare_both(alloc, table, looks, text, other) {
         Ok(compared) => {
-            let wrote = write_compared(table, ranks, &compared, output);
+            let wrote = write_compared(table, looks, &compared, output);
             drop(compared);
             wrote
         }
@@ -124,19 +130,19 @@ struct Compared {
 fn compare_both(
     alloc: Global,
     table: &Table,
-    ranks: &Ranks,
+    looks: &RankLooks,
     text: &str,
     other: &str,
 ) -> Result<Compared, KeyFault>
     requires short { is_any_too_long (chars text.now ∷ chars other.now ∷ []) ≡ false }
-    requires ranks { AreRanksOf ranks.now (collation table.now) }
+    requires looks { Serves looks.now table.now }
     ensures elements { IfOk result (λ made. made.elements.items ≡ elements_of (collation table.now) (chars text.now)) }
     ensures others { IfOk result (λ made. made.others.items ≡ elements_of (collation table.now) (chars other.now)) }
     ensures order { IfOk result (λ made. made.order ≡ order_of (collation table.now) (chars text.now) (chars other.now)) }
     ensures few { IfOk result (λ made. length made.elements.items ≤ 65_536) }
     ensures few_others { IfOk result (λ made. length made.others.items ≤ 65_536) }
 {
-    let order = compare(alloc, table, ranks, text, other)?;
+    let order = looks.compare(alloc, table, text, other)?;
     let elements = element_ids(alloc, table, text)?;
     let others = element_ids(alloc, table, other)?;
     Ok(Compared {
@@ -180,11 +186,11 @@ fn id_of(element: ElementEntry<'_>) -> Result<Id, AllocError>
 // Writes the explanation of two texts that were compared.
 fn write_compared<'a, W: Sink>(
     table: &'a Table,
-    ranks: &'a Ranks,
+    looks: &'a RankLooks,
     compared: &'a Compared,
     output: &mut W,
 ) -> Result<(), RunFault>
-    requires ranks { AreRanksOf ranks.now (collation table.now) }
+    requires looks { Serves looks.now table.now }
     requires few { length compared.now.elements.items ≤ 65_536 }
     requires few_others { length compared.now.others.items ≤ 65_536 }
     ensures sent { Sends (W.taken output.old) (W.taken output.new) (explanation_of (collation table.now) compared.now.elements.items
@@ -193,7 +199,7 @@ fn write_compared<'a, W: Sink>(
     ensures writes { CountsWrites (W.failed output.old) (W.failed output.new) result }
 {
     let undefined = Id::Undefined;
-    let weighing = Weighing::new(table, ranks, &undefined);
+    let weighing = Weighing::new(table, looks, &undefined);
     let wrote = write_explanation(output, &weighing, table.rules(), compared);
     drop(weighing);
     drop(undefined);

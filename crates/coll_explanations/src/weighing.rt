@@ -11,7 +11,8 @@ ghost use Rattle.coll_nodes.specs.Table.{Collation, is_placed};
 ghost use Rattle.coll_ranks.specs.WeightNumbers.{code_point};
 ghost use Rattle.coll_explanations.specs.Sources.{source, weight_sources};
 
-use coll_key::{RANK_STEP, Ranks};
+use crate::rank_looks::RankLooks;
+use coll_key::RANK_STEP;
 use coll_syntax::{Id, Weight};
 use coll_table::Table;
 use std::marker::Model;
@@ -24,11 +25,11 @@ pub(crate) struct ElementIds<'a> {
     pub(crate) added: u32,
 }
 
-/// A table with its ranks, by which elements are weighed.
+/// A table with what tells its ranks, by which elements are weighed.
 #[derive(Drop)]
 pub(crate) struct Weighing<'a> {
     table: &'a Table,
-    ranks: &'a Ranks,
+    looks: &'a RankLooks,
     // The identifier `UNDEFINED`.
     undefined: &'a Id,
 }
@@ -39,32 +40,33 @@ impl<'a> Model for Weighing<'a> {
     ghost use Rattle.coll_nodes.specs.Table.{Collation};
     ghost use Rattle.coll_nodes.specs.TableLayout.{collation};
     ghost use Rattle.coll_nodes.specs.WellFormed.{IsWellFormed};
-    ghost use Rattle.coll_ranks.specs.Ranks.{AreRanksOf};
+    ghost use Rattle.coll_explanations.specs.RankLooks.{Serves};
 
     ghost Value = { Collation };
 
     ghost view = { λ w. collation w.table.now };
 
-    ghost invariant = { λ w. AreRanksOf w.ranks.now (collation w.table.now) × IsWellFormed (collation w.table.now)
+    ghost invariant = { λ w. Serves w.looks.now w.table.now × IsWellFormed (collation w.table.now)
         × (w.undefined.now ≡ Undefined) };
 }
 
 impl<'a> Weighing<'a> {
     ghost use Rattle.coll_nodes.specs.TableLayout.{collation};
     ghost use Rattle.coll_elements.specs.Rank.{known_rank};
-    ghost use Rattle.coll_ranks.specs.Ranks.{AreRanksOf, added_to};
+    ghost use Rattle.coll_ranks.specs.Ranks.{added_to};
+    ghost use Rattle.coll_explanations.specs.RankLooks.{Serves};
     ghost use Rattle.coll_explanations.specs.Sources.{sources_at};
 
-    /// A table with its ranks, and the identifier `UNDEFINED`.
-    pub(crate) fn new(table: &'a Table, ranks: &'a Ranks, undefined: &'a Id) -> Weighing<'a>
-        requires ranks { AreRanksOf ranks.now (collation table.now) }
+    /// A table with what tells its ranks, and the identifier `UNDEFINED`.
+    pub(crate) fn new(table: &'a Table, looks: &'a RankLooks, undefined: &'a Id) -> Weighing<'a>
+        requires looks { Serves looks.now table.now }
         requires undefined { undefined.now ≡ Undefined }
         ensures { result ≡ collation table.now }
     {
         table.lemma_well_formed();
         Weighing {
             table,
-            ranks,
+            looks,
             undefined,
         }
     }
@@ -81,7 +83,7 @@ impl<'a> Weighing<'a> {
     pub(crate) fn number(&self, id: &Id, added: u32) -> u64
         ensures { result ≡ added_to added (known_rank self.now id.now) }
     {
-        let rank = self.ranks.rank(id).unwrap_or(0);
+        let rank = self.looks.known_rank(self.table, id);
         u64::from(rank) * RANK_STEP + u64::from(added)
     }
 

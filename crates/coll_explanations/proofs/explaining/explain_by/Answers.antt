@@ -4,7 +4,7 @@ use Rattle.coll_nodes.specs.TableLayout.{collation}
 use Rattle.coll_explanations.specs.Explaining.{WritesWhole}
 use Rattle.coll_explanations.specs.Explanations.{explanation_of}
 use Rattle.coll_explanations.proofs.ExplanationParts.{explained, whole_sent}
-use Rattle.coll_explanations.proofs.explaining.explain_by_ranks.Goals as goal
+use Rattle.coll_explanations.proofs.explaining.explain_by.Goals as goal
 
 pub returns-in-Ok-clause-run : goal.returns-in-Ok-clause-run
 returns-in-Ok-clause-run g c =
