@@ -13,3 +13,4 @@ pub mod SeenWords
 pub mod SortCases
 pub mod SortedLemmas
 pub mod TextWords
+pub mod WordTextLemmas

@@ -15,4 +15,5 @@ pub mod SortRuns
 pub mod SortedWords
 pub mod WordOrders
 pub mod WordReading
+pub mod WordTexts
 pub mod Words

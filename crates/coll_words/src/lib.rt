@@ -5,7 +5,7 @@
 //!
 //! - `packed_keys`: sort keys in half the memory, in the same order (`PackedKeys`);
 //! - `words`: a word with its key, and the sort (`KeyedWords`, `LedWords`, `SortedWords`);
-//! - `reading`: the words of an input (`Words`, `WordReading`);
+//! - `reading`: the words of an input (`Words`, `WordReading`), and `word_texts`: the same without keys (`WordTexts`);
 //! - `sorting`: the words of an input are sorted, and written (`SortRuns`);
 //! - `reviewing`: statements are put to a table one by one, and of each it is told what it did to the words of an input
 //!   (`ReviewRuns`), over `listed_words` with the list that is sorted anew (`Neighbours`, `NumberedWords`, `ListedWords`), by
@@ -30,6 +30,7 @@ mod reviews;
 mod sorting;
 mod staying_words;
 mod word_orders;
+mod word_texts;
 mod words;
 
 pub use packed_keys::packed_keys_are_ordered_alike;
@@ -37,4 +38,5 @@ pub use progress::Progress;
 pub use reading::read_words;
 pub use reviewing::review_words;
 pub use sorting::sort_lines;
+pub use word_texts::read_texts;
 pub use words::{Word, sort_by_keys, write_words};

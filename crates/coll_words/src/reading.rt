@@ -179,8 +179,8 @@ fn next_number(words: &[Word]) -> u32
     words.len() as u32 + 1
 }
 
-// The fault that is answered where the reader stops before the line with this number.
-fn stop_fault(number: u32, stop: ReadStop) -> RunFault
+/// The fault that is answered where the reader stops before the line with this number.
+pub(crate) fn stop_fault(number: u32, stop: ReadStop) -> RunFault
     ensures { result ≡ stopped_in 0 number stop }
 {
     match stop {
@@ -189,15 +189,15 @@ fn stop_fault(number: u32, stop: ReadStop) -> RunFault
     }
 }
 
-// Lack of memory at the line with this number, or at none.
-fn no_memory(number: u32) -> RunFault
+/// Lack of memory at the line with this number, or at none.
+pub(crate) fn no_memory(number: u32) -> RunFault
     ensures { result ≡ fault_in 0 number (Lex OutOfMemory) }
 {
     fault_at(number, Fault::Lex(LexFault::OutOfMemory))
 }
 
-// A fault at the line with this number, or at none.
-fn fault_at(line: u32, fault: Fault) -> RunFault
+/// A fault at the line with this number, or at none.
+pub(crate) fn fault_at(line: u32, fault: Fault) -> RunFault
     ensures { result ≡ fault_in 0 line fault }
 {
     RunFault {
