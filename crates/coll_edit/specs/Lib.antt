@@ -3,3 +3,4 @@ pub mod EditRuns
 pub mod Help
 pub mod OwnLines
 pub mod Watching
+pub mod WordKeys

@@ -1,22 +1,23 @@
 //! A list of words in the order now, those marked whose neighbours the last statement changed.
 //!
 //! The words are put in order by the table before the last statement that remains, and each is told which words stand beside it; then
-//! they are put in order by the table now, and a word is marked where others stand beside it. Words that compare equal stay in the
-//! order of their lines, in both orders.
+//! they are put in order by the table now, and a word is marked where others stand beside it. Where no statement remains both tables
+//! are the same, and so are both orders: the words are put in order once. Words that compare equal stay in the order of their lines,
+//! in both orders. What their keys are made by is told by `word_keys`.
 
 ghost use Rattle.std.specs.Prelude.{◌≡◌};
-ghost use Rattle.coll_nodes.specs.TableLayout.{collation};
-ghost use Rattle.coll_ranks.specs.Ranks.{AreRanksOf};
 ghost use Rattle.coll_bench.specs.Serving.{block_of, history_of, lexer_of};
+ghost use Rattle.coll_edit.specs.WordKeys.{Serves};
 
 use crate::replies::write_count;
+use crate::word_keys::WordKeys;
 use coll_bench::{Fault, RunFault, RunState, write_failed};
 use coll_devices::{Sink, Source, WriteStop};
-use coll_key::{KeyFault, Ranks};
-use coll_lex::LexFault;
+use coll_key::{EntryNumbers, KeyFault};
+use coll_lex::{LexFault, TextBuf};
 use coll_table::Table;
 use coll_texts::{Piece, write_pieces};
-use coll_words::{Word, read_words};
+use coll_words::{Word, read_texts};
 use std::alloc::{AllocError, Global};
 
 // A word of a list.
@@ -67,11 +68,10 @@ fn list_words<R: Source>(
     ensures block { block_of run.new ≡ block_of run.old }
     ensures parser { lexer_of run.new ≡ lexer_of run.old }
 {
-    match read_before(alloc, run, input) {
-        Ok(words) => match list_anew(alloc, run.session().table(), words) {
-            Ok(list) => Ok(list),
-            Err(fault) => Err(at_no_line(fault)),
-        },
+    let changed = run.session().remaining_len() > 0;
+    let mut numbers = EntryNumbers::new(alloc);
+    match read_before(alloc, run, &mut numbers, input) {
+        Ok(list) => list_anew(alloc, run.session().table(), &mut numbers, changed, list),
         Err(ended) => Err(ended),
     }
 }
@@ -80,60 +80,171 @@ fn list_words<R: Source>(
 fn read_before<R: Source>(
     alloc: Global,
     run: &mut RunState,
+    numbers: &mut EntryNumbers,
     input: &mut R,
-) -> Result<Vec<Word>, RunFault>
+) -> Result<Vec<ListedWord>, RunFault>
     ensures history { history_of run.new ≡ history_of run.old }
     ensures block { block_of run.new ≡ block_of run.old }
     ensures parser { lexer_of run.new ≡ lexer_of run.old }
 {
     match run.undo() {
         Ok(_) => {
-            let read = read_words(alloc, run.session().table(), input);
+            let read = read_keyed(alloc, run.session().table(), numbers, input);
             let _ = run.redo();
             read
         }
-        Err(_) => read_words(alloc, run.session().table(), input),
+        Err(_) => read_keyed(alloc, run.session().table(), numbers, input),
     }
 }
 
-// Words with keys by the table before, sorted by these, and then sorted anew by the table now.
-fn list_anew(alloc: Global, table: &Table, words: Vec<Word>) -> Result<Vec<ListedWord>, KeyFault> {
-    let mut list = listed(alloc, words)?;
-    match sort_anew(alloc, table, &mut list) {
-        Ok(()) => Ok(list),
-        Err(fault) => {
-            drop(list);
-            Err(fault)
+// The words of an input, with keys by a table.
+fn read_keyed<R: Source>(
+    alloc: Global,
+    table: &Table,
+    numbers: &mut EntryNumbers,
+    input: &mut R,
+) -> Result<Vec<ListedWord>, RunFault> {
+    match read_texts(alloc, input) {
+        Ok(texts) => keyed(alloc, table, numbers, texts),
+        Err(ended) => Err(ended),
+    }
+}
+
+// Texts as words with keys by a table.
+fn keyed(
+    alloc: Global,
+    table: &Table,
+    numbers: &mut EntryNumbers,
+    texts: Vec<TextBuf>,
+) -> Result<Vec<ListedWord>, RunFault> {
+    match WordKeys::new(alloc, table, numbers, characters_in(&texts)) {
+        Ok(keys) => {
+            let list = listed(alloc, table, &keys, texts);
+            drop(keys);
+            list
+        }
+        Err(_) => {
+            drop(texts);
+            Err(no_memory(0))
         }
     }
 }
 
-// Sorts a list with keys by the table before, tells its words what stands beside them, and sorts it anew by the table now.
-fn sort_anew(alloc: Global, table: &Table, list: &mut Vec<ListedWord>) -> Result<(), KeyFault> {
+// How many characters texts have together.
+fn characters_in(texts: &[TextBuf]) -> usize {
+    let mut count = 0usize;
+    for text in texts {
+        count = count.saturating_add(text.get().chars().count());
+    }
+    count
+}
+
+// Texts as words with the numbers of their lines, from 1.
+fn listed(
+    alloc: Global,
+    table: &Table,
+    keys: &WordKeys<'_>,
+    texts: Vec<TextBuf>,
+) -> Result<Vec<ListedWord>, RunFault>
+    requires { Serves keys.now table.now }
+{
+    let mut list = Vec::new(alloc);
+    for text in texts {
+        let put = put_word(alloc, table, keys, text.get(), &mut list);
+        drop(text);
+        if let Err(ended) = put {
+            return Err(ended);
+        }
+    }
+    Ok(list)
+}
+
+// Puts the word of a line behind those of the lines before it.
+fn put_word(
+    alloc: Global,
+    table: &Table,
+    keys: &WordKeys<'_>,
+    text: &str,
+    list: &mut Vec<ListedWord>,
+) -> Result<(), RunFault>
+    requires { Serves keys.now table.now }
+{
+    let line = list.len() + 1;
+    match keys.word(alloc, table, text) {
+        Ok(word) => {
+            let listed = ListedWord {
+                line,
+                before: 0,
+                behind: 0,
+                word,
+            };
+            match list.push(listed) {
+                Ok(()) => Ok(()),
+                Err(_) => Err(no_memory(line)),
+            }
+        }
+        Err(fault) => Err(fault_at(line, Fault::Key(fault))),
+    }
+}
+
+// Words with keys by the table before, in the order now, each with what stood beside it before. Both tables are the same unless a
+// statement has changed one.
+fn list_anew(
+    alloc: Global,
+    table: &Table,
+    numbers: &mut EntryNumbers,
+    changed: bool,
+    words: Vec<ListedWord>,
+) -> Result<Vec<ListedWord>, RunFault> {
+    let mut list = words;
+    match sort_both(alloc, table, numbers, changed, &mut list) {
+        Ok(()) => Ok(list),
+        Err(fault) => {
+            drop(list);
+            Err(fault_at(0, Fault::Key(fault)))
+        }
+    }
+}
+
+// Sorts a list with keys by the table before, tells its words what stands beside them, and sorts it anew where the table has changed.
+fn sort_both(
+    alloc: Global,
+    table: &Table,
+    numbers: &mut EntryNumbers,
+    changed: bool,
+    list: &mut Vec<ListedWord>,
+) -> Result<(), KeyFault> {
     sort_listed(list)?;
     tell_before(list);
     tell_behind(list);
-    let ranks = Ranks::new(alloc, table)?;
-    let keyed = key_anew(alloc, table, &ranks, list);
-    drop(ranks);
+    if changed {
+        sort_anew(alloc, table, numbers, list)?;
+    }
+    Ok(())
+}
+
+// Gives the words of a list keys by the table now, and sorts it by these.
+fn sort_anew(
+    alloc: Global,
+    table: &Table,
+    numbers: &mut EntryNumbers,
+    list: &mut Vec<ListedWord>,
+) -> Result<(), KeyFault> {
+    let keys = WordKeys::new(alloc, table, numbers, characters_of(list))?;
+    let keyed = key_anew(alloc, table, &keys, list);
+    drop(keys);
     keyed?;
     sort_listed(list)?;
     Ok(())
 }
 
-// Words with the numbers of their lines, from 1.
-fn listed(alloc: Global, words: Vec<Word>) -> Result<Vec<ListedWord>, AllocError> {
-    let mut list = Vec::new(alloc);
-    for word in words {
-        let line = list.len() + 1;
-        list.push(ListedWord {
-            line,
-            before: 0,
-            behind: 0,
-            word,
-        })?;
+// How many characters the words of a list have together.
+fn characters_of(list: &[ListedWord]) -> usize {
+    let mut count = 0usize;
+    for listed in list {
+        count = count.saturating_add(listed.word.text().chars().count());
     }
-    Ok(list)
+    count
 }
 
 // Sorts a list by its keys, and words with the same by their lines.
@@ -169,13 +280,13 @@ fn tell_behind(list: &mut [ListedWord]) {
 fn key_anew(
     alloc: Global,
     table: &Table,
-    ranks: &Ranks,
+    keys: &WordKeys<'_>,
     list: &mut [ListedWord],
 ) -> Result<(), KeyFault>
-    requires { AreRanksOf ranks.now (collation table.now) }
+    requires { Serves keys.now table.now }
 {
     for listed in list.iter_mut() {
-        match Word::new(alloc, table, ranks, listed.word.text()) {
+        match keys.word(alloc, table, listed.word.text()) {
             Ok(word) => drop(std::mem::replace(&mut listed.word, word)),
             Err(fault) => return Err(fault),
         }
@@ -218,11 +329,16 @@ fn write_marked<W: Sink>(out: &mut W, marked: bool, word: &str) -> Result<(), Wr
     )
 }
 
-// A fault that comes from no line.
-fn at_no_line(fault: KeyFault) -> RunFault {
+// Lack of memory at a line, or at none.
+fn no_memory(line: usize) -> RunFault {
+    fault_at(line, Fault::Lex(LexFault::OutOfMemory))
+}
+
+// A fault at a line, or at none: no input has so many lines that one has no number here.
+fn fault_at(line: usize, fault: Fault) -> RunFault {
     RunFault {
         input: 0,
-        line: 0,
-        fault: Fault::Key(fault),
+        line: u32::try_from(line).unwrap_or(0),
+        fault,
     }
 }

@@ -1,0 +1,66 @@
+//! What the keys of a list of words are made by.
+//!
+//! The ranks of a whole table are made in one pass over its entries, and then serve each word at once. Where the words have few
+//! characters beside the entries, these are only numbered, which is a much shorter pass, and each word looks up what it asks for and
+//! no more. How many are few may change: the words are the same.
+
+ghost use Rattle.std.specs.Prelude.{◌≡◌, ◌≢◌, chars, true, IfErr, IfOk};
+ghost use Rattle.coll_nodes.specs.TableLayout.{collation};
+ghost use Rattle.coll_key.specs.KeyLimits.{is_too_long};
+ghost use Rattle.coll_key.specs.declared.key_faults.KeyFault.TheVariants.{OutOfMemory};
+ghost use Rattle.coll_words.specs.KeyedWords.{IsKeyed};
+ghost use Rattle.coll_edit.specs.WordKeys.{Serves};
+
+use coll_key::{EntryNumbers, KeyFault, Ranks};
+use coll_table::Table;
+use coll_words::Word;
+use std::alloc::{AllocError, Global};
+
+// For so many entries of the table words may have one character: it is looked up in some half of the time that their ranks take.
+const ENTRIES_A_CHARACTER: usize = 16;
+
+/// What the keys of words are made by.
+#[derive(Drop)]
+pub(crate) enum WordKeys<'a> {
+    /// The places of the table's entries.
+    ByNumbers(&'a EntryNumbers),
+    /// The ranks of the whole table.
+    ByRanks(Ranks),
+}
+
+impl<'a> WordKeys<'a> {
+    /// What the keys of words are made by in a table, where they have so many characters. The numbers are given anew, or stay.
+    pub fn new(
+        alloc: Global,
+        table: &Table,
+        numbers: &'a mut EntryNumbers,
+        characters: usize,
+    ) -> Result<WordKeys<'a>, AllocError>
+        ensures { IfOk result (λ keys. Serves keys table.now) }
+    {
+        if are_few(table, characters) {
+            table.number_entries(numbers)?;
+            return Ok(WordKeys::ByNumbers(numbers));
+        }
+        let ranks = Ranks::new(alloc, table)?;
+        Ok(WordKeys::ByRanks(ranks))
+    }
+
+    /// The word of a text, with its key by the table.
+    pub fn word(&self, alloc: Global, table: &Table, text: &str) -> Result<Word, KeyFault>
+        requires { Serves self.now table.now }
+        ensures text { IfOk result (λ word. word.text ≡ chars text.now) }
+        ensures key { IfOk result (λ word. IsKeyed (collation table.now) word) }
+        ensures err { IfErr result (λ fault. fault ≢ OutOfMemory → is_too_long (chars text.now) ≡ true) }
+    {
+        match self {
+            WordKeys::ByNumbers(numbers) => Word::by_numbers(alloc, table, numbers, text),
+            WordKeys::ByRanks(ranks) => Word::new(alloc, table, ranks, text),
+        }
+    }
+}
+
+// Whether so many characters are few beside a table.
+fn are_few(table: &Table, characters: usize) -> bool {
+    characters <= table.len() / ENTRIES_A_CHARACTER
+}
