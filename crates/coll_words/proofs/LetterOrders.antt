@@ -1,16 +1,16 @@
--- Characters that no element begins with serve a table.
-use Rattle.std.proofs.Common.{◌≡◌, ℕ, zero, List, [], ◌∷◌, Option, None, Some, ap, map, refl}
-use Rattle.std.specs.Prelude.{IfSome, slice_index_or}
+-- Characters that hold no element as they stand serve a table.
+use Rattle.std.proofs.Common.{ℕ, List, [], ◌∷◌, Option, None, Some, chars, string_bytes}
+use Rattle.std.specs.Prelude.{IfSome}
 use Rattle.coll_nodes.specs.Table.{Collation}
-use Rattle.coll_words.specs.LetterWeights.{StandsAlone}
+use Rattle.coll_words.specs.ElementMarks.{AreAllApart, AreAlone, AreMarks}
 use Rattle.coll_words.specs.WordOrders.{AreApart, MayServe}
+use Rattle.coll_words.specs.declared.element_marks.ElementMarks.{ElementMarks}
 use Rattle.coll_words.specs.declared.letters.Letters.{Letters}
 
-pub may_serve : (table : Collation) (firsts : List ℕ) (kept : Option Letters) → ((c : ℕ) → slice_index_or firsts c 0 ≡ zero → StandsAlone table c) → IfSome kept (AreApart firsts)
-    → IfSome kept (MayServe table)
-may_serve table firsts None alone apart = tt
-may_serve table firsts (Some letters) alone apart = record { alone = λ k d within. alone _ (apart.apart k d within); few = apart.few }
+all_alone : (table : Collation) (marks : ElementMarks) → AreMarks table marks → (text : List ℕ) → AreAllApart marks text → AreAlone table text
+all_alone table marks are [] apart = tt
+all_alone table marks are (c ∷ rest) apart = (are c rest apart.0, all_alone table marks are rest apart.1)
 
-pub same_letters : (letters : List ℕ) → map (λ (c : ℕ). c) letters ≡ letters
-same_letters [] = refl
-same_letters (c ∷ letters) = ap (λ (l : List ℕ). c ∷ l) (same_letters letters)
+pub may_serve : (table : Collation) (marks : ElementMarks) (kept : Option Letters) → AreMarks table marks → IfSome kept (AreApart marks) → IfSome kept (MayServe table)
+may_serve table marks None are apart = tt
+may_serve table marks (Some letters) are apart = record { alone = all_alone table marks are (chars (string_bytes letters.text)) apart.apart; few = apart.few }

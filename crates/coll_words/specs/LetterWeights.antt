@@ -1,47 +1,36 @@
 -- What characters weigh in a table, kept for the characters of words alone.
-use Rattle.std.specs.Prelude.{◌≡◌, ◌<◌, ℕ, List, [], ◌∷◌, ◌++◌, None, All, length, map, chars, true, false}
+use Rattle.std.specs.Prelude.{◌≡◌, ◌<◌, ℕ, List, [], ◌∷◌, ◌++◌, All, length, map, chars, true, false}
 use Rattle.std.specs.List.{flat_map}
 use Rattle.std.specs.Ordering.{is_ne}
 use Rattle.std.specs.declared.cmp.Ordering.{Ordering}
 use Rattle.coll_syntax.specs.declared.identifiers.Id.TheVariants.{Char}
 use Rattle.coll_syntax.specs.declared.rules.Rule.{Rule}
 use Rattle.coll_nodes.specs.Table.{Collation}
-use Rattle.coll_nodes.specs.declared.declarations.Declaration.{Declaration}
-use Rattle.coll_nodes.specs.declared.declarations.Declaration.TheVariants as declaration
-use Rattle.coll_elements.specs.Elements.{begins_with, element_text, elements_of, elements_placed, longest}
+use Rattle.coll_elements.specs.Elements.{elements_of}
 use Rattle.coll_ranks.specs.LevelWeights.{row_numbers}
 use Rattle.coll_ranks.specs.RankLists.{WeightsValue}
 use Rattle.coll_ranks.specs.WeightNumbers.{numbers_at}
 use Rattle.coll_ranks.specs.declared.text_elements.ElementRow.{ElementRow}
 use Rattle.coll_key.specs.TextOrder.{list_order}
+use Rattle.coll_words.specs.ElementMarks.{AreMarks}
 use Rattle.coll_words.specs.declared.letter_weights.FirstLetter.{FirstLetter}
 use Rattle.coll_words.specs.declared.letter_weights.LetterRow.{LetterRow}
 use Rattle.coll_words.specs.declared.letter_weights.LetterStep.{LetterStep}
 use Rattle.coll_words.specs.declared.letter_weights.LetterStep.TheVariants.{Decided, Later, Unknown}
 use Rattle.coll_words.specs.declared.letter_weights.LetterWeights.{LetterWeights}
 
--- no collating element that is placed begins with a character, so this is an element wherever it comes
-abbrev pub StandsAlone : Collation → ℕ → Type 0
-StandsAlone table c = (rest : List ℕ) → longest element_text (elements_placed table) (c ∷ rest) ≡ None
-
--- what is declared is no element that begins with a character
-abbrev pub BeginsOther : ℕ → Declaration → Type 0
-BeginsOther c (declaration.Symbol name) = Unit {0}
-BeginsOther c (declaration.Equivalence name symbol) = Unit {0}
-BeginsOther c (declaration.Element name text) = (rest : List ℕ) → begins_with (c ∷ rest) text ≡ false
-
--- a row has the numbers of a character that stands alone
+-- a row has the numbers of a character
 pub record IsRowOf (table : Collation) (weights : WeightsValue) (c : ℕ) (row : ElementRow) : Type 0 where
-  pub alone : StandsAlone table c
   pub numbers : (level : ℕ) → level < length table.rules → row_numbers weights level row ≡ numbers_at table level (Char c)
 
 -- a character with its row
 abbrev pub IsLetterRow : Collation → WeightsValue → LetterRow → Type 0
 IsLetterRow table weights entry = IsRowOf table weights entry.letter entry.row
 
--- the rows that are kept are those of their characters
-abbrev pub AreLetterWeights : Collation → LetterWeights → Type 0
-AreLetterWeights table weights = All (IsLetterRow table weights.made.weights) weights.rows.items
+-- the rows that are kept are those of their characters, and the marks those of the table
+pub record AreLetterWeights (table : Collation) (weights : LetterWeights) : Type 0 where
+  pub rows : All (IsLetterRow table weights.made.weights) weights.rows.items
+  pub marks : AreMarks table weights.marks
 
 -- the numbers of a text's elements at a level, element by element
 abbrev pub text_numbers : Collation → (level : ℕ) → List ℕ → List (List ℕ)
@@ -56,6 +45,11 @@ pub record IsFirstLetter (table : Collation) (weights : WeightsValue) (text : Li
 -- the numbers of a text at the first level, one behind another
 abbrev pub first_numbers : Collation → List ℕ → List ℕ
 first_numbers table text = flat_map (λ numbers. numbers) (text_numbers table 0 text)
+
+-- the first level orders two texts as it orders two others
+abbrev pub OrdersAlike : Collation → (text other later others : List ℕ) → Type 0
+OrdersAlike table text other later others =
+    list_order (first_numbers table text) (first_numbers table other) ≡ list_order (first_numbers table later) (first_numbers table others)
 
 -- the first level is looked at from the front, and without positions
 abbrev pub BeginsPlain : List Rule → Type 0

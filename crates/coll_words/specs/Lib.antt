@@ -1,4 +1,5 @@
 pub mod Declaring
+pub mod ElementMarks
 pub mod KeyedWords
 pub mod LedWords
 pub mod LetterWeights

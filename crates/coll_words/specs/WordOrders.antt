@@ -1,11 +1,13 @@
 -- What words are compared by.
-use Rattle.std.specs.Prelude.{◌≡◌, ℕ, zero, List, All, chars, false, slice_index_or, string_bytes}
+use Rattle.std.specs.Prelude.{◌≡◌, chars, false, string_bytes}
 use Rattle.coll_nodes.specs.NodeNumbers.{AreNumbersOf}
 use Rattle.coll_nodes.specs.Table.{Collation}
 use Rattle.coll_nodes.specs.TableLayout.{TableValue, collation}
 use Rattle.coll_ranks.specs.Ranks.{AreRanksOf}
 use Rattle.coll_key.specs.KeyLimits.{is_too_long}
-use Rattle.coll_words.specs.LetterWeights.{AreLetterWeights, StandsAlone}
+use Rattle.coll_words.specs.ElementMarks.{AreAllApart, AreAlone}
+use Rattle.coll_words.specs.LetterWeights.{AreLetterWeights}
+use Rattle.coll_words.specs.declared.element_marks.ElementMarks.{ElementMarks}
 use Rattle.coll_words.specs.declared.letters.Letters.{Letters}
 use Rattle.coll_words.specs.declared.word_orders.WordOrder.{WordOrder}
 use Rattle.coll_words.specs.declared.word_orders.WordOrder.TheVariants.{ByRanks, ByLetters}
@@ -15,12 +17,12 @@ abbrev pub Serves : WordOrder → TableValue → Type 0
 Serves (ByRanks ranks) table = AreRanksOf ranks (collation table)
 Serves (ByLetters letters) table = AreLetterWeights (collation table) letters.weights × AreNumbersOf letters.numbers.now table.layout
 
--- no character begins an element, where elements begin with those that have a number here, and they are few
-pub record AreApart (firsts : List ℕ) (letters : Letters) : Type 0 where
-  pub apart : All (λ (c : ℕ). slice_index_or firsts c 0 ≡ zero) (chars (string_bytes letters.text))
+-- by the marks the characters, one behind another, hold no element, and they are few
+pub record AreApart (marks : ElementMarks) (letters : Letters) : Type 0 where
+  pub apart : AreAllApart marks (chars (string_bytes letters.text))
   pub few : is_too_long (chars (string_bytes letters.text)) ≡ false
 
--- no character begins an element of a table, and they are few
+-- the characters, one behind another, hold no element of a table, and they are few
 pub record MayServe (table : Collation) (letters : Letters) : Type 0 where
-  pub alone : All (StandsAlone table) (chars (string_bytes letters.text))
+  pub alone : AreAlone table (chars (string_bytes letters.text))
   pub few : is_too_long (chars (string_bytes letters.text)) ≡ false

@@ -7,11 +7,13 @@ ghost use Rattle.std.specs.Prelude.{◌≡◌, chars, true, IfOk, IfSome};
 ghost use Rattle.coll_nodes.specs.TableLayout.{collation};
 ghost use Rattle.coll_key.specs.SortKey.{key_of};
 ghost use Rattle.coll_key.specs.TextOrder.{order_of};
+ghost use Rattle.coll_words.specs.ElementMarks.{AreMarks};
 ghost use Rattle.coll_words.specs.WordOrders.{AreApart, MayServe, Serves};
 ghost use Rattle.coll_words.specs.declared.word_orders.WordOrder.TheVariants.{ByLetters};
 
+use crate::element_marks::ElementMarks;
 use crate::letter_weights::LetterWeights;
-use crate::letters::{Letters, element_firsts, stand_alone};
+use crate::letters::Letters;
 use crate::listed_words::ListedWord;
 use coll_elements::CodePoints;
 use coll_key::{
@@ -75,10 +77,9 @@ pub(crate) fn word_order<'a>(
 ) -> Result<WordOrder<'a>, AllocError>
     ensures { IfOk result (λ order. Serves order table.now) }
 {
-    let serves = look_at_letters(alloc, table, &mut looks.letters, list)?;
-    if serves {
+    if let Some(marks) = look_at_letters(alloc, table, &mut looks.letters, list)? {
         if let Some(letters) = &looks.letters {
-            let order = letter_order(alloc, table, letters, &mut looks.numbers)?;
+            let order = letter_order(alloc, table, letters, marks, &mut looks.numbers)?;
             return Ok(WordOrder::ByLetters(order));
         }
     }
@@ -86,18 +87,20 @@ pub(crate) fn word_order<'a>(
     Ok(WordOrder::ByRanks(ranks))
 }
 
-// The rows of characters, none of which begins an element.
+// The rows of characters, with the marks of a table.
 fn letter_order<'a>(
     alloc: Global,
     table: &Table,
     letters: &'a Letters,
+    marks: ElementMarks,
     numbers: &'a mut EntryNumbers,
 ) -> Result<LetterOrder<'a>, AllocError>
-    requires { MayServe (collation table.now) letters.now }
+    requires letters { MayServe (collation table.now) letters.now }
+    requires marks { AreMarks (collation table.now) marks }
     ensures { IfOk result (λ order. Serves (ByLetters order) table.now) }
 {
     table.number_entries(numbers)?;
-    let weights = LetterWeights::new(alloc, table, numbers, letters.text.as_str())?;
+    let weights = LetterWeights::new(alloc, table, numbers, letters.text.as_str(), marks)?;
     Ok(LetterOrder {
         weights,
         places: &letters.places,
@@ -105,26 +108,30 @@ fn letter_order<'a>(
     })
 }
 
-// Whether words are compared by their characters in a table. These are gathered where they weren't, or where one of them may begin an
-// element now.
+// The marks of a table, where words are compared by their characters in it. These are gathered where they weren't, or where another
+// element was declared since.
 fn look_at_letters(
     alloc: Global,
     table: &Table,
     kept: &mut Option<Letters>,
     list: &[ListedWord],
-) -> Result<bool, AllocError>
-    ensures { IfOk result (λ serves. serves ≡ true → IfSome kept.new (MayServe (collation table.now))) }
+) -> Result<Option<ElementMarks>, AllocError>
+    ensures { IfOk result (λ found. IfSome found (λ marks.
+        AreMarks (collation table.now) marks × IfSome kept.new (MayServe (collation table.now)))) }
 {
     if are_incomplete(kept) {
-        return Ok(false);
+        return Ok(None);
     }
-    let firsts = element_firsts(alloc, table)?;
-    if !are_apart(kept, &firsts) {
-        let letters = Letters::of(alloc, list, &firsts, most_letters(table))?;
+    let marks = ElementMarks::of(alloc, table)?;
+    if !are_of(kept, &marks) {
+        let times = times_gathered(kept);
+        let letters = Letters::of(alloc, list, &marks, most_letters(table), times)?;
         drop(kept.replace(letters));
     }
-    let serves = are_apart(kept, &firsts);
-    Ok(serves)
+    if are_apart(kept, &marks) {
+        return Ok(Some(marks));
+    }
+    Ok(None)
 }
 
 // Whether characters were gathered, and one was left out.
@@ -135,19 +142,35 @@ fn are_incomplete(kept: &Option<Letters>) -> bool {
     }
 }
 
-// Whether characters were gathered, none was left out, and none begins an element by these numbers.
-fn are_apart(kept: &Option<Letters>, firsts: &CodePoints) -> bool
-    ensures { result ≡ true → IfSome kept.now (AreApart firsts.now) }
+// How often characters were gathered.
+fn times_gathered(kept: &Option<Letters>) -> u32 {
+    match kept {
+        Some(letters) => letters.times,
+        None => 0,
+    }
+}
+
+// Whether characters were gathered while as many elements were declared as have these marks.
+fn are_of(kept: &Option<Letters>, marks: &ElementMarks) -> bool {
+    match kept {
+        Some(letters) => letters.elements == marks.count(),
+        None => false,
+    }
+}
+
+// Whether characters were gathered, none was left out, and they hold no element by these marks.
+fn are_apart(kept: &Option<Letters>, marks: &ElementMarks) -> bool
+    ensures { result ≡ true → IfSome kept.now (AreApart marks.now) }
 {
     match kept {
-        Some(letters) => serve(letters, firsts),
+        Some(letters) => serve(letters, marks),
         None => false,
     }
 }
 
 // The same of characters that were gathered.
-fn serve(letters: &Letters, firsts: &CodePoints) -> bool
-    ensures { result ≡ true → AreApart firsts.now letters.now }
+fn serve(letters: &Letters, marks: &ElementMarks) -> bool
+    ensures { result ≡ true → AreApart marks.now letters.now }
 {
     if !letters.all {
         return false;
@@ -156,7 +179,7 @@ fn serve(letters: &Letters, firsts: &CodePoints) -> bool
     if is_too_long(text) {
         return false;
     }
-    stand_alone(text, firsts)
+    marks.are_all_apart(text)
 }
 
 // How many characters of words have rows of their own.

@@ -7,6 +7,6 @@ use Rattle.coll_words.proofs.letter_weights.LetterWeights.first_letter.Goals as 
 pub returns : goal.returns
 returns c = record {
   numbers = letter_first (collation c.args.table.now) c.args.self.now.made.weights c.in_ok-first.first c.in_ok-row.row (chars c.args.text.now) (chars c.in_ok-first.rest.now) c.in_ok-first.ensures
-      c.in_ok-row.ensures;
+      (c.requires.marks c.in_ok-first.first (chars c.in_ok-first.rest.now) (c.is_apart.ensures c.if-not-is_apart.false)) c.in_ok-row.ensures;
   shorter = omega (arith, ap length c.in_ok-first.ensures);
 }

@@ -11,6 +11,6 @@ returns-then-kept-letter c =
     let weights = c.args.self.now.made.weights in
     let none : LetterRow = record { letter = 0; row = record { first = 0; code = 0 } } in
     let kept = get_or c.deref-rows.result.now c.in_ok-place.field-0 none in
-    let all : All (IsLetterRow table weights) c.deref-rows.result.now = subst (All (IsLetterRow table weights)) (sym c.deref-rows.ensures.value) c.requires in
+    let all : All (IsLetterRow table weights) c.deref-rows.result.now = subst (All (IsLetterRow table weights)) (sym c.deref-rows.ensures.value) c.requires.rows in
     let same : kept.letter ≡ c.args.letter = c.if-kept-letter.true in
     subst (λ (letter : ℕ). IsRowOf table weights letter kept.row) same (all c.in_ok-place.field-0 none (omega (arith, c.if-place-rows.true)))

@@ -16,11 +16,12 @@ returns-in_default-split_first_char c =
     step_greater (collation c.args.table.now) c.args.self.now.made.weights c.requires.levels (chars c.args.left.now) (chars c.args.right.now) c.step_at_end-in_default-split_first_char.result
     c.in_default-split_first_char.ensures c.step_at_end-in_default-split_first_char.ensures
 
-pub returns-then-first-second : goal.returns-then-first-second
-returns-then-first-second c =
+pub returns-then-is_apart : goal.returns-then-is_apart
+returns-then-is_apart c =
     step_same (collation c.args.table.now) c.args.self.now.made.weights c.requires.levels (chars c.args.left.now) (chars c.args.right.now) (chars c.in-Some.later.now)
-    (chars c.in-Some-split_first_char.others.now) c.in-Some.first c.in-Some-split_first_char.second c.in-Some-row.row c.in-Some.ensures c.in-Some-split_first_char.ensures c.if-first-second.true
-    c.in-Some-row.ensures
+    (chars c.in-Some-split_first_char.others.now) c.in-Some.first c.in-Some-split_first_char.second c.in-Some.ensures c.in-Some-split_first_char.ensures c.if-first-second.true
+    (c.requires.weights.marks c.in-Some.first (chars c.in-Some.later.now) (c.is_apart.ensures c.if-not-is_apart.false))
+    (c.requires.weights.marks c.in-Some.first (chars c.in-Some-split_first_char.others.now) (c.is_apart-then-first-second.ensures c.if-is_apart.true))
 
 pub returns : goal.returns
 returns c =
@@ -32,11 +33,13 @@ returns c =
     let second : FirstLetter = record { row = c.in-Some-row-2.other_row; rest = c.in-Some-split_first_char.others } in
     step_both table weights c.requires.levels left right first second (level_numbers c.args.at_first first.row) (level_numbers c.args.at_first second.row) c.step_of_both.result
     (record {
-      numbers = letter_first table weights c.in-Some.first first.row left (chars first.rest.now) c.in-Some.ensures c.in-Some-row.ensures;
+      numbers = letter_first table weights c.in-Some.first first.row left (chars first.rest.now) c.in-Some.ensures
+          (c.requires.weights.marks c.in-Some.first (chars first.rest.now) (c.is_apart.ensures c.if-not-is_apart.false)) c.in-Some-row.ensures;
       shorter = omega (arith, ap length c.in-Some.ensures);
     })
     (record {
-      numbers = letter_first table weights c.in-Some-split_first_char.second second.row right (chars second.rest.now) c.in-Some-split_first_char.ensures c.in-Some-row-2.ensures;
+      numbers = letter_first table weights c.in-Some-split_first_char.second second.row right (chars second.rest.now) c.in-Some-split_first_char.ensures
+          (c.requires.weights.marks c.in-Some-split_first_char.second (chars second.rest.now) (c.is_apart-2.ensures c.if-not-is_apart-2.false)) c.in-Some-row-2.ensures;
       shorter = omega (arith, ap length c.in-Some-split_first_char.ensures);
     })
     (c.requires.level first.row) (c.requires.level second.row) c.step_of_both.ensures

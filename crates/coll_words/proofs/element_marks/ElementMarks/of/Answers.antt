@@ -8,23 +8,24 @@ use Rattle.coll_nodes.specs.declared.declarations.Declaration.{Declaration}
 use Rattle.coll_elements.specs.Elements.{element_placed, element_text, longest}
 use Rattle.coll_elements.specs.TableElements.{HasString}
 use Rattle.coll_elements.proofs.TableElementLemmas.{have_strings}
-use Rattle.coll_words.proofs.LetterLemmas.{none_of_more}
-use Rattle.coll_words.proofs.letters.element_firsts.Goals as goal
+use Rattle.coll_words.proofs.LetterLemmas.{apart_before, apart_other, none_of_more}
+use Rattle.coll_words.proofs.element_marks.ElementMarks.of.Goals as goal
 
 pub declared-init : goal.declared-init
 declared-init c = record {
   some = subst (All HasString) (sym c.declared-left.ensures) (have_strings _ c.lemma_well_formed.ensures.well_formed.built.texts);
-  so_far = λ d rest none later. subst (λ (ds : List Declaration). longest element_text (flat_map (element_placed (collation c.args.table.now)) ds) (d ∷ rest) ≡ None) c.declared-left.ensures later;
+  so_far = λ d rest apart later. subst (λ (ds : List Declaration). longest element_text (flat_map (element_placed (collation c.args.table.now)) ds) (d ∷ rest) ≡ None) c.declared-left.ensures later;
 }
 
 pub declared-preserved : goal.declared-preserved
 declared-preserved c = record {
   some = All-tail HasString (declared_by c.in-Some.item) c.next.new.self (subst (All HasString) c.in-Some.ensures.steps c.declared.invariant.some);
-  so_far = λ d rest none later. c.declared.invariant.so_far d rest (c.in_ok-put_first.ensures.others d none)
+  so_far = λ d rest apart later. c.declared.invariant.so_far d rest (apart_before c.declared.marks c.mark_declared.new.marks c.in_ok-mark_declared.ensures.kept d rest apart)
       (subst (λ (ds : List Declaration). longest element_text (flat_map (element_placed (collation c.args.table.now)) ds) (d ∷ rest) ≡ None) (sym c.in-Some.ensures.steps)
-      (none_of_more (collation c.args.table.now) d rest (declared_by c.in-Some.item) c.next.new.self (c.in_ok-put_first.ensures.apart d none) later));
+      (none_of_more (collation c.args.table.now) d rest (declared_by c.in-Some.item) c.next.new.self
+      (apart_other c.mark_declared.new.marks d rest (declared_by c.in-Some.item) apart c.in_ok-mark_declared.ensures.told) later));
 }
 
 pub returns : goal.returns
-returns c = λ d none rest. c.declared.invariant.so_far d rest none
+returns c = λ d rest apart. c.declared.invariant.so_far d rest apart
     (ap (λ (ds : List Declaration). longest element_text (flat_map (element_placed (collation c.args.table.now)) ds) (d ∷ rest)) c.in_default.ensures.steps.0)

@@ -1,0 +1,66 @@
+-- Which characters stand first and second in the strings of the elements of a table.
+use Rattle.std.specs.Prelude.{◌≡◌, ◌⊎◌, ◌<◌, ◌≤◌, ℕ, List, [], ◌∷◌, None, false, length, slice_index_or}
+use Rattle.coll_nodes.specs.Table.{Collation}
+use Rattle.coll_nodes.specs.declared.declarations.Declaration.{Declaration}
+use Rattle.coll_nodes.specs.declared.declarations.Declaration.TheVariants as declaration
+use Rattle.coll_elements.specs.Elements.{begins_with, element_text, elements_placed, longest}
+use Rattle.coll_words.specs.declared.element_marks.ElementMarks.{ElementMarks}
+
+-- no collating element that is placed begins with a character that this text follows
+abbrev pub StandsAlone : Collation → ℕ → (rest : List ℕ) → Type 0
+StandsAlone table c rest = longest element_text (elements_placed table) (c ∷ rest) ≡ None
+
+-- nor anywhere in a text, so its elements are its characters
+abbrev pub AreAlone : Collation → (text : List ℕ) → Type 0
+AreAlone table [] = Unit {0}
+AreAlone table (c ∷ rest) = StandsAlone table c rest × AreAlone table rest
+
+-- what is declared is no element that a text begins with
+abbrev pub BeginsOther : (text : List ℕ) → Declaration → Type 0
+BeginsOther text (declaration.Symbol name) = Unit {0}
+BeginsOther text (declaration.Equivalence name symbol) = Unit {0}
+BeginsOther text (declaration.Element name string) = begins_with text string ≡ false
+
+-- a text goes on with a character that isn't marked as second, or not at all
+abbrev pub GoesOnOther : ElementMarks → (rest : List ℕ) → Type 0
+GoesOnOther marks [] = Unit {0}
+GoesOnOther marks (d ∷ rest) = slice_index_or marks.seconds d 0 ≡ 0
+
+-- by the marks no element begins with a character that this text follows
+abbrev pub IsApart : ElementMarks → ℕ → (rest : List ℕ) → Type 0
+IsApart marks c rest =
+    (slice_index_or marks.firsts c 0 ≡ 0) ⊎ ((slice_index_or marks.firsts c 0 < 2) × GoesOnOther marks rest)
+
+-- nor anywhere in a text
+abbrev pub AreAllApart : ElementMarks → (text : List ℕ) → Type 0
+AreAllApart marks [] = Unit {0}
+AreAllApart marks (c ∷ rest) = IsApart marks c rest × AreAllApart marks rest
+
+-- the marks are those of a table: where they tell that no element begins, none that is placed does
+abbrev pub AreMarks : Collation → ElementMarks → Type 0
+AreMarks table marks = (c : ℕ) (rest : List ℕ) → IsApart marks c rest → StandsAlone table c rest
+
+-- two texts have the same byte at a place, which is a character by itself, and no element begins with it
+pub record IsSameAt (marks : ElementMarks) (text other : List ℕ) (place : ℕ) : Type 0 where
+  pub within : place < length text
+  pub other_within : place < length other
+  pub same : slice_index_or text place 0 ≡ slice_index_or other place 0
+  pub alone : slice_index_or text place 0 < 128
+  pub unmarked : slice_index_or marks.firsts (slice_index_or text place 0) 0 ≡ 0
+
+-- no mark is lower than it was
+pub record KeepMarks (old new : ElementMarks) : Type 0 where
+  pub firsts : (c : ℕ) → slice_index_or old.firsts c 0 ≤ slice_index_or new.firsts c 0
+  pub seconds : (c : ℕ) → slice_index_or old.seconds c 0 ≤ slice_index_or new.seconds c 0
+
+-- the first two characters of a string are marked, and a single one as the whole
+abbrev pub AreMarked : ElementMarks → (string : List ℕ) → Type 0
+AreMarked marks [] = ⊥
+AreMarked marks (c ∷ []) = 2 ≤ slice_index_or marks.firsts c 0
+AreMarked marks (c ∷ d ∷ rest) = (1 ≤ slice_index_or marks.firsts c 0) × (1 ≤ slice_index_or marks.seconds d 0)
+
+-- the marks tell of what is declared
+abbrev pub TellsOf : ElementMarks → Declaration → Type 0
+TellsOf marks (declaration.Symbol name) = Unit {0}
+TellsOf marks (declaration.Equivalence name symbol) = Unit {0}
+TellsOf marks (declaration.Element name text) = AreMarked marks text
