@@ -1,12 +1,12 @@
 -- Words that stand in order, taken apart and put together.
-use Rattle.std.proofs.Common.{◌≡◌, ℕ, zero, suc, ◌+◌, ◌<◌, Bool, true, false, List, [], ◌∷◌, ◌++◌, length, get_or, reverse, refl, sym, ap, subst, ◌∙◌, arith, append_assoc, append-nil}
+use Rattle.std.proofs.Common.{◌≡◌, ℕ, zero, suc, ◌+◌, ◌-◌, ◌<◌, ◌≤◌, Bool, true, false, List, [], ◌∷◌, ◌++◌, length, get_or, reverse, refl, sym, ap, subst, ◌∙◌, arith, append_assoc, append-nil}
 use Rattle.std.specs.List.Sorted.{IsPermutation}
 use Rattle.std.specs.Cmp.{IsTotalOrder}
 use Rattle.std.specs.Ordering.{is_lt, nat_cmp, ordering_reverse, ordering_then}
 use Rattle.std.specs.declared.cmp.Ordering.{Ordering}
 use Rattle.std.specs.declared.cmp.Ordering.TheVariants.{Less, Equal, Greater}
 use Rattle.std.proofs.lemmas.Cmp.{nat_cmp_total, nat_list_cmp_total, on_total, then_total}
-use Rattle.std.proofs.lemmas.List.{reverse-append}
+use Rattle.std.proofs.lemmas.List.{length-append, reverse-append, reverse-reverse}
 use Rattle.std.proofs.lemmas.List.Sorted.{IsPermutation-refl, IsPermutation-sym, IsPermutation-trans, IsPermutation-middle, IsPermutation-to_front, IsPermutation-reverse}
 use Rattle.std.proofs.lemmas.List.Sorted.{IsPermutation-append_right, IsPermutation-append_left, IsPermutation-append_comm}
 use Rattle.coll_nodes.specs.Table.{Collation}
@@ -18,7 +18,7 @@ use Rattle.coll_key.specs.declared.key_faults.KeyFault.{KeyFault}
 use Rattle.coll_words.specs.ListedWords.{all_numbered, numbered_of}
 use Rattle.coll_words.specs.Neighbours.{NumberedWord}
 use Rattle.coll_words.specs.NumberedWords.{line_order}
-use Rattle.coll_words.specs.MovedWords.{StandInOrder, MayStandBefore, PutsBefore}
+use Rattle.coll_words.specs.MovedWords.{StandInOrder, MayStandBefore, PartsAt, PutsBefore, PutsLast}
 use Rattle.coll_words.specs.declared.listed_words.ListedWord.{ListedWord}
 use Rattle.std.specs.Prelude.{OnOk, Result, Ok, Err}
 
@@ -144,40 +144,116 @@ same_last list front left listed other is other_is =
     first_or none [] = none
     first_or none (first ∷ others) = first
 
--- the last word of a list is the first from its end
-pub last_first : (table : Collation) (listed behind : ListedWord) (list front : List ListedWord) → list ≡ front ++ behind ∷ []
-    → before table behind listed ≡ false → MayStandBefore table listed (reverse list)
-last_first table listed behind list front is apart = subst (MayStandBefore table listed) (sym (ap reverse is ∙ reversed_with front behind)) apart
-
 -- Put together.
 
-module _ (table : Collation) (asymmetric : (listed other : ListedWord) → before table listed other ≡ true → before table other listed ≡ false) where
-  -- a moved word that comes before another one goes behind what is put already
-  pub one_before : (put : List ListedWord) (first next : ListedWord) (others later : List ListedWord) → before table first next ≡ true → Ascends table (put ++ first ∷ others)
-      → Ascends table (put ++ next ∷ later) → Ascends table ((put ++ first ∷ []) ++ next ∷ later)
-  one_before put first next others later is fits ascends =
-      subst (Ascends table) (sym (append_assoc put (first ∷ []) (next ∷ later)))
-      (ascends_between table put first (next ∷ later) others fits ascends (asymmetric first next is))
+module _ (table : Collation) where
+  -- a word may stand behind others: it doesn't come before the last of them
+  abbrev pub MayStandBehind : ListedWord → List ListedWord → Type 0
+  MayStandBehind next [] = Unit {0}
+  MayStandBehind next (listed ∷ []) = before table next listed ≡ false
+  MayStandBehind next (listed ∷ second ∷ list) = MayStandBehind next (second ∷ list)
 
--- how far moved words were put behind others
-pub record PutSoFar (table : Collation) (next : ListedWord) (put moved put_now moved_now : List ListedWord) : Type 0 where
-  pub same : put_now ++ reverse moved_now ≡ put ++ reverse moved
-  pub ordered : (later : List ListedWord) → Ascends table (put ++ reverse moved) → Ascends table (put ++ next ∷ later) → Ascends table (put_now ++ next ∷ later)
+  behind_last : (next : ListedWord) (list : List ListedWord) (last : ListedWord) → before table next last ≡ false → MayStandBehind next (list ++ last ∷ [])
+  behind_last next [] last apart = apart
+  behind_last next (first ∷ []) last apart = apart
+  behind_last next (first ∷ second ∷ list) last apart = behind_last next (second ∷ list) last apart
 
-pub put_none : (table : Collation) (next : ListedWord) (put moved : List ListedWord) → PutSoFar table next put moved put moved
-put_none table next put moved = record { same = refl; ordered = λ later ascends fits. fits }
+  -- words that stand behind a front go before another one, which may stand behind them
+  ascends_through : (front taken rest : List ListedWord) (next : ListedWord) (later : List ListedWord) → Ascends table (front ++ (taken ++ rest)) → Ascends table (front ++ next ∷ later)
+      → MayStandBehind next taken → Ascends table (front ++ (taken ++ next ∷ later))
+  ascends_through [] [] rest next later ascends fits may = fits
+  ascends_through [] (first ∷ []) rest next later ascends fits may = (may, fits)
+  ascends_through [] (first ∷ second ∷ taken) rest next later ascends fits may = (ascends.0, ascends_through [] (second ∷ taken) rest next later ascends.1 fits may)
+  ascends_through (first ∷ []) [] rest next later ascends fits may = fits
+  ascends_through (first ∷ []) (second ∷ taken) rest next later ascends fits may = (ascends.0, ascends_through [] (second ∷ taken) rest next later ascends.1 fits.1 may)
+  ascends_through (first ∷ second ∷ front) taken rest next later ascends fits may =
+      (ascends.0, ascends_through (second ∷ front) taken rest next later ascends.1 fits.1 may)
 
-module _ (table : Collation) (next : ListedWord) (put moved put_now moved_now : List ListedWord) (so_far : PutSoFar table next put moved put_now moved_now) where
-  pub put_one : (asymmetric : (listed other : ListedWord) → before table listed other ≡ true → before table other listed ≡ false) (first : ListedWord) (left put_then : List ListedWord)
-      → moved_now ≡ left ++ first ∷ [] → put_then ≡ put_now ++ first ∷ [] → before table first next ≡ true → PutSoFar table next put moved put_then left
-  put_one asymmetric first left put_then moved_is put_is is =
-      let from_here : put_now ++ first ∷ reverse left ≡ put ++ reverse moved =
-      ap (λ (l : List ListedWord). put_now ++ l) (sym (ap reverse moved_is ∙ reversed_with left first)) ∙ so_far.same in
-      record {
-        same = ap (λ (l : List ListedWord). l ++ reverse left) put_is ∙ append_assoc put_now (first ∷ []) (reverse left) ∙ from_here;
-        ordered = λ later ascends fits. subst (λ (l : List ListedWord). Ascends table (l ++ next ∷ later)) (sym put_is)
-            (one_before table asymmetric put_now first next (reverse left) later is (subst (Ascends table) (sym from_here) ascends) (so_far.ordered later ascends fits));
-      }
+-- words were put from the end of a list, and no fewer than so many are left
+pub record PutsDownTo (left : ℕ) (put words put_now words_now : List ListedWord) : Type 0 where
+  pub taken : List ListedWord
+  pub put_is : put_now ≡ put ++ reverse taken
+  pub words_are : words ≡ words_now ++ taken
+  pub enough : left ≤ length words_now
+
+pub none_down : (left : ℕ) (put words : List ListedWord) → left ≤ length words → PutsDownTo left put words put words
+none_down left put words enough = record { taken = []; put_is = sym (append-nil put); words_are = sym (append-nil words); enough = enough }
+
+pub down_one : (left : ℕ) (put words put_now words_now : List ListedWord) → PutsDownTo left put words put_now words_now → (next : ListedWord) (rest put_then : List ListedWord)
+    → words_now ≡ rest ++ next ∷ [] → put_then ≡ put_now ++ next ∷ [] → left < length words_now → PutsDownTo left put words put_then rest
+down_one left put words put_now words_now so_far next rest put_then rest_is put_is more = record {
+  taken = next ∷ so_far.taken;
+  put_is = put_is ∙ ap (λ (l : List ListedWord). l ++ next ∷ []) so_far.put_is ∙ append_assoc put (reverse so_far.taken) (next ∷ [])
+      ∙ ap (λ (l : List ListedWord). put ++ l) (sym (reverse-append (next ∷ []) so_far.taken));
+  words_are = so_far.words_are ∙ ap (λ (l : List ListedWord). l ++ so_far.taken) rest_is ∙ append_assoc rest (next ∷ []) so_far.taken;
+  enough = omega (arith, more, ap length rest_is, length-append rest (next ∷ []));
+}
+
+pub down_to : (left : ℕ) (put words put_now words_now : List ListedWord) → PutsDownTo left put words put_now words_now → length words_now ≤ left → PutsLast left put words put_now words_now
+down_to left put words put_now words_now so_far few = record {
+  taken = so_far.taken;
+  put_is = so_far.put_is;
+  words_are = so_far.words_are;
+  long = omega (arith, so_far.enough, few);
+}
+
+-- a member within a list, whatever stands for none
+same_member : (list : List ListedWord) (n : ℕ) (d e : ListedWord) → n < length list → get_or list n d ≡ get_or list n e
+same_member [] n d e within = absurd (omega (arith, within))
+same_member (first ∷ list) zero d e within = refl
+same_member (first ∷ list) (suc n) d e within = same_member list n d e (omega (arith, within))
+
+-- a word that comes before another one
+pub put_at : (table : Collation) (list : List ListedWord) (place : ℕ) (listed next d : ListedWord) → ((one other : ListedWord) → before table one other ≡ true → before table other one ≡ false)
+    → place < length list → listed ≡ get_or list place listed → before table listed next ≡ true → before table next (get_or list place d) ≡ false
+put_at table list place listed next d asymmetric within is less =
+    ap (λ (l : ListedWord). before table next l) (same_member list place d listed within ∙ sym is) ∙ asymmetric listed next less
+
+-- or doesn't
+pub stays_at : (table : Collation) (list : List ListedWord) (place n : ℕ) (listed next d : ListedWord) → place < length list → n ≡ place → listed ≡ get_or list place listed
+    → before table listed next ≡ false → before table (get_or list n d) next ≡ false
+stays_at table list place n listed next d within here is apart =
+    ap (λ (l : ListedWord). before table l next) (ap (λ (k : ℕ). get_or list k d) here ∙ same_member list place d listed within ∙ sym is) ∙ apart
+
+-- the member behind so many others
+at_end : (front : List ListedWord) (first : ListedWord) (others : List ListedWord) (n : ℕ) (d : ListedWord) → n ≡ length front → get_or (front ++ first ∷ others) n d ≡ first
+at_end [] first others n d is = ap (λ (k : ℕ). get_or (first ∷ others) k d) is
+at_end (one ∷ front) first others zero d is = absurd (omega (arith, is))
+at_end (one ∷ front) first others (suc n) d is = at_end front first others n d (omega (arith, is))
+
+-- the words behind those that are left were put before another one, which may stand among them
+module _ (table : Collation) (next : ListedWord) (put words put_now words_now : List ListedWord) (left : ℕ) (parts : PartsAt table next words left) (puts : PutsLast left put words put_now words_now) where
+  turned : put ++ reverse words ≡ put ++ (reverse puts.taken ++ reverse words_now)
+  turned = ap (λ (l : List ListedWord). put ++ reverse l) puts.words_are ∙ ap (λ (l : List ListedWord). put ++ l) (reverse-append words_now puts.taken)
+
+  behind_taken : (taken : List ListedWord) → words ≡ words_now ++ taken → MayStandBehind table next (reverse taken)
+  behind_taken [] is = tt
+  behind_taken (first ∷ others) is =
+      subst (MayStandBehind table next) (sym (reverse-append (first ∷ []) others))
+      (behind_last table next (reverse others) first
+      (sym (ap (λ (l : ListedWord). before table next l) (ap (λ (l : List ListedWord). get_or l left first) is ∙ at_end words_now first others left first (sym puts.long)))
+      ∙ parts.put first (omega (arith, ap length is, length-append words_now (first ∷ others), puts.long))))
+
+  before_left : (turned_now : List ListedWord) → reverse words_now ≡ turned_now → MayStandBefore table next turned_now
+  before_left [] e = tt
+  before_left (last ∷ others) e =
+      let left_is : words_now ≡ reverse others ++ last ∷ [] = sym (reverse-reverse words_now) ∙ ap reverse e ∙ reverse-append (last ∷ []) others in
+      let long : left ≡ length (reverse others) + 1 = sym puts.long ∙ ap length left_is ∙ length-append (reverse others) (last ∷ []) in
+      let here : words ≡ reverse others ++ last ∷ puts.taken =
+      puts.words_are ∙ ap (λ (l : List ListedWord). l ++ puts.taken) left_is ∙ append_assoc (reverse others) (last ∷ []) puts.taken in
+      sym (ap (λ (l : ListedWord). before table l next) (ap (λ (l : List ListedWord). get_or l (left - 1) last) here ∙ at_end (reverse others) last puts.taken (left - 1) last (omega (arith, long))))
+      ∙ parts.stay last (omega (arith, long))
+
+  pub puts_parted : PutsBefore table next put words put_now words_now
+  puts_parted = record {
+    same = ap (λ (l : List ListedWord). l ++ reverse words_now) puts.put_is ∙ append_assoc put (reverse puts.taken) (reverse words_now) ∙ sym turned;
+    fits = λ later ascends fits. in_order table (put_now ++ next ∷ later)
+        (subst (λ (l : List ListedWord). Ascends table (l ++ next ∷ later)) (sym puts.put_is)
+        (subst (Ascends table) (sym (append_assoc put (reverse puts.taken) (next ∷ later)))
+        (ascends_through table put (reverse puts.taken) (reverse words_now) next later (subst (Ascends table) turned (ascending table (put ++ reverse words) ascends))
+        (ascending table (put ++ next ∷ later) fits) (behind_taken puts.taken puts.words_are))));
+    before = before_left (reverse words_now) refl;
+  }
 
 -- how far words that stay and words that move are put together
 pub record TogetherSoFar (table : Collation) (kept moved put kept_now moved_now : List ListedWord) : Type 0 where
@@ -241,19 +317,6 @@ rest_of P (Err fault) put all is holds = tt
 pub nothing_left : (list : List ListedWord) → length list ≡ 0 → list ≡ []
 nothing_left [] none = refl
 nothing_left (first ∷ list) none = absurd (omega (arith, none))
-
--- no word of none comes before another one
-pub none_before : (table : Collation) (next : ListedWord) (moved : List ListedWord) → length moved ≡ 0 → MayStandBefore table next (reverse moved)
-none_before table next [] none = tt
-none_before table next (first ∷ moved) none = absurd (omega (arith, none))
-
-pub puts_so : (table : Collation) (next : ListedWord) (put moved put_now moved_now : List ListedWord) → PutSoFar table next put moved put_now moved_now → MayStandBefore table next (reverse moved_now)
-    → PutsBefore table next put moved put_now moved_now
-puts_so table next put moved put_now moved_now so_far before = record {
-  same = so_far.same;
-  fits = λ later ascends fits. in_order table (put_now ++ next ∷ later) (so_far.ordered later (ascending table (put ++ reverse moved) ascends) (ascending table (put ++ next ∷ later) fits));
-  before = before;
-}
 
 flipped : (o p : Ordering) → p ≡ ordering_reverse o → is_lt o ≡ true → is_lt p ≡ false
 flipped Less p is less = ap is_lt is

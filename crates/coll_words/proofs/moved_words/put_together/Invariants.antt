@@ -3,8 +3,8 @@ use Rattle.coll_nodes.specs.TableLayout.{collation}
 use Rattle.coll_words.proofs.OrderedWords.{TogetherSoFar}
 use Rattle.coll_words.proofs.moved_words.put_together.Given as goal
 
-abbrev pub invariant-kept : goal.invariant-kept
-invariant-kept l = TogetherSoFar (collation l.table) l.initial.kept.items l.initial.moved.items l.list.items l.kept.items l.moved.items
+abbrev pub invariant-moved : goal.invariant-moved
+invariant-moved l = TogetherSoFar (collation l.table) l.initial.moved.items l.initial.kept.items l.list.items l.moved.items l.kept.items
 
-abbrev pub decreases-kept : goal.decreases-kept
-decreases-kept l = goal.left-kept l
+abbrev pub decreases-moved : goal.decreases-moved
+decreases-moved l = goal.left-moved l
