@@ -17,6 +17,7 @@ use Rattle.coll_nodes.specs.WellFormed.{IsWellFormed}
 use Rattle.coll_key.specs.TextOrder.{list_order}
 use Rattle.coll_texts.proofs.PrintedParts.{HasWritten, left_begins, written_more, written_prefix}
 use Rattle.coll_words.specs.KeyedWords.{KeyedWord, IsKeyed, texts_of}
+use Rattle.coll_words.specs.MovedWords.{IsOrderedTo}
 use Rattle.coll_words.specs.ListedWords.{AreListedByKeys, IsSortedAnew, all_numbered, led_by, newly_beside, numbered_of, unkeyed}
 use Rattle.coll_words.specs.Neighbours.{NumberedWord, WordPair}
 use Rattle.coll_words.specs.NumberedWords.{line_order, numbered_from}
@@ -342,3 +343,10 @@ module _ (table : Collation) (before now : List ListedWord) (count : ℕ) (so_fa
         (λ off. let other : k ≢ count = eqb-false k count off in
         subst (λ (l : ListedWord). IsKeyed table l.word) (sym (get_or-set_other now count k (record listed { word = word }) d other)) (so_far.keyed k d (omega (arith, below, other))));
   }
+
+-- where as many words are in order as there are, all are
+pub whole_ordered : (table : Collation) (items list : List ListedWord) (count : ℕ) → list ≡ items → count ≡ length items → IsOrderedTo table (all_numbered list) count
+    → IsSorted (line_order table) (all_numbered items)
+whole_ordered table items list count same whole ordered = λ k d low high.
+    subst (λ (l : List ListedWord). is_lt (line_order table (get_or (all_numbered l) (k + 1) d) (get_or (all_numbered l) k d)) ≡ false) same
+    (ordered k d low (omega (arith, high, whole, length-map items numbered_of)))

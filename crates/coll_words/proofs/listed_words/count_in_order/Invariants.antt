@@ -5,7 +5,7 @@ use Rattle.std.specs.Ordering.{is_lt}
 use Rattle.coll_nodes.specs.TableLayout.{collation}
 use Rattle.coll_words.specs.ListedWords.{all_numbered}
 use Rattle.coll_words.specs.NumberedWords.{line_order}
-use Rattle.coll_words.proofs.listed_words.is_in_order.Given as goal
+use Rattle.coll_words.proofs.listed_words.count_in_order.Given as goal
 
 abbrev pub invariant-loop-place : goal.invariant-loop-place
 invariant-loop-place l =

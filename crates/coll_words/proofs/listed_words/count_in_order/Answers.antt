@@ -2,7 +2,7 @@
 use Rattle.std.proofs.Common.{arith, sym, ◌∙◌}
 use Rattle.coll_nodes.specs.TableLayout.{collation}
 use Rattle.coll_words.proofs.ListedLemmas.{order_on}
-use Rattle.coll_words.proofs.listed_words.is_in_order.Goals as goal
+use Rattle.coll_words.proofs.listed_words.count_in_order.Goals as goal
 
 pub loop-place-preserved : goal.loop-place-preserved
 loop-place-preserved c = record {
