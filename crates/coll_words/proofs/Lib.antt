@@ -12,5 +12,6 @@ pub mod ReviewLemmas
 pub mod SeenWords
 pub mod SortCases
 pub mod SortedLemmas
+pub mod StoredLemmas
 pub mod TextWords
 pub mod WordTextLemmas

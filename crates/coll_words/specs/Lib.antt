@@ -14,6 +14,7 @@ pub mod ReviewSteps
 pub mod Reviews
 pub mod SortRuns
 pub mod SortedWords
+pub mod StoredWords
 pub mod WordOrders
 pub mod WordReading
 pub mod WordTexts

@@ -5,7 +5,10 @@
 //!
 //! - `packed_keys`: sort keys in half the memory, in the same order (`PackedKeys`);
 //! - `words`: a word with its key, and the sort (`KeyedWords`, `LedWords`, `SortedWords`);
-//! - `reading`: the words of an input (`Words`, `WordReading`), and `word_texts`: the same without keys (`WordTexts`);
+//! - `reading`: the words of an input (`Words`, `WordReading`), put into what `taking_words` says, and `word_texts`: the same without
+//!   keys (`WordTexts`);
+//! - `stored_words`: many words in few blocks of memory (`StoredWords`), their keys made by `key_rooms`; and `lent_words`, which are
+//!   sorted;
 //! - `sorting`: the words of an input are sorted, and written (`SortRuns`);
 //! - `reviewing`: statements are put to a table one by one, and of each it is told what it did to the words of an input
 //!   (`ReviewRuns`), over `listed_words` with the list that is sorted anew (`Neighbours`, `NumberedWords`, `ListedWords`), by
@@ -18,6 +21,8 @@
 
 mod element_marks;
 mod kept_bytes;
+mod key_rooms;
+mod lent_words;
 mod letter_weights;
 mod letters;
 mod listed_words;
@@ -30,6 +35,8 @@ mod reviewing;
 mod reviews;
 mod sorting;
 mod staying_words;
+mod stored_words;
+mod taking_words;
 mod word_orders;
 mod word_texts;
 mod words;

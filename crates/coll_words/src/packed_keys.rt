@@ -4,7 +4,7 @@
 //! level. Nearly all of them fit 32 bits without the room that each rank has for code points; the others are kept as three numbers.
 //! Packed keys are compared like keys, as lists of numbers, and have their order.
 
-ghost use Rattle.std.specs.Prelude.{◌≡◌, ◌++◌, IfOk, OnOk};
+ghost use Rattle.std.specs.Prelude.{◌≡◌, ◌<◌, ◌≤◌, ◌+◌, [], ◌∷◌, ◌++◌, vec_len, vec_capacity, IfOk, MatchOption};
 ghost use Rattle.coll_words.specs.PackedKeys.{packed_number, packed_above, packed_whole, packed_key, PackedKeysAreOrderedAlike};
 
 use coll_key::RANK_STEP;
@@ -17,47 +17,98 @@ const SHORT_RANKS: u64 = 1_073_741_824;
 pub(crate) fn packed_key(alloc: Global, key: &[u64]) -> Result<Vec<u32>, AllocError>
     ensures { IfOk result (λ packed. packed.items ≡ packed_key key.now) }
 {
-    let mut packed = Vec::with_capacity(alloc, key.len())?;
-    for number in key {
-        push_number(&mut packed, *number)?;
+    packed_key_in(Vec::new(alloc), key)
+}
+
+/// A key, packed, in the memory of another list, whose numbers are forgotten.
+pub(crate) fn packed_key_in(room: Vec<u32>, key: &[u64]) -> Result<Vec<u32>, AllocError>
+    ensures { IfOk result (λ packed. packed.items ≡ packed_key key.now) }
+{
+    let mut packed = emptied(room, key.len())?;
+    let mut left = key;
+    'numbers: while let Some((number, later)) = left.split_first() {
+        left = later;
+        packed = with_packed(packed, *number, later.len())?;
     }
     Ok(packed)
 }
 
-// Puts a number of a key behind others.
-fn push_number(packed: &mut Vec<u32>, number: u64) -> Result<(), AllocError>
-    ensures { OnOk result (packed.new.items ≡ packed.old.items ++ packed_number number) }
+// An empty list with room for so many numbers, in the memory of another one.
+#[inline(never)]
+fn emptied(room: Vec<u32>, numbers: usize) -> Result<Vec<u32>, AllocError>
+    ensures none { IfOk result (λ list. list.items ≡ []) }
+    ensures room { IfOk result (λ list. vec_len list + numbers ≤ vec_capacity list) }
 {
-    if number < RANK_STEP {
-        packed.push(number as u32)?;
-        return Ok(());
-    }
-    push_above(packed, number)
+    let mut list = room;
+    list.clear();
+    list.reserve(numbers)?;
+    Ok(list)
 }
 
-// Puts the number of a rank behind others.
-fn push_above(packed: &mut Vec<u32>, number: u64) -> Result<(), AllocError>
-    ensures { OnOk result (packed.new.items ≡ packed.old.items ++ packed_above number) }
+// Puts a number of a key behind others, for which there is room as long as it is packed as one, and leaves room for later ones.
+#[inline(always)]
+fn with_packed(packed: Vec<u32>, number: u64, later: usize) -> Result<Vec<u32>, AllocError>
+    requires { vec_len packed + later + 1 ≤ vec_capacity packed }
+    ensures number { IfOk result (λ with. with.items ≡ packed.items ++ packed_number number) }
+    ensures room { IfOk result (λ with. vec_len with + later ≤ vec_capacity with) }
+{
+    match short_number(number) {
+        Some(short) => Ok(with_short(packed, short)),
+        None => with_whole(packed, number, later),
+    }
+}
+
+// What a number is packed as, where that is one number.
+#[inline(always)]
+fn short_number(number: u64) -> Option<u32>
+    ensures { MatchOption result (packed_number number ≡ packed_whole number) (λ short. packed_number number ≡ short ∷ []) }
+{
+    if number < RANK_STEP {
+        return Some(number as u32);
+    }
+    short_rank(number)
+}
+
+// What the number of a rank is packed as, where that is one number.
+#[inline(always)]
+fn short_rank(number: u64) -> Option<u32>
+    ensures { MatchOption result (packed_above number ≡ packed_whole number) (λ short. packed_above number ≡ short ∷ []) }
 {
     if number % RANK_STEP == 0 {
         let rank = number / RANK_STEP;
         if rank < SHORT_RANKS {
-            packed.push((RANK_STEP + 2 * rank) as u32)?;
-            return Ok(());
+            return Some((RANK_STEP + 2 * rank) as u32);
         }
     }
-    push_whole(packed, number)
+    None
 }
 
-// Puts the number of a rank and more, or of a rank that isn't short, behind others.
-fn push_whole(packed: &mut Vec<u32>, number: u64) -> Result<(), AllocError>
-    ensures { OnOk result (packed.new.items ≡ packed.old.items ++ packed_whole number) }
+// Puts a number behind others, where there is room for it.
+#[inline(always)]
+fn with_short(packed: Vec<u32>, short: u32) -> Vec<u32>
+    requires { vec_len packed < vec_capacity packed }
+    ensures items { result.items ≡ packed.items ++ short ∷ [] }
+    ensures len { vec_len result ≡ vec_len packed + 1 }
+    ensures capacity { vec_capacity result ≡ vec_capacity packed }
+{
+    let mut with = packed;
+    with.push_reserved(short);
+    with
+}
+
+// Puts the number of a rank and more, or of a rank that isn't short, behind others, and makes room for later numbers.
+#[inline(never)]
+fn with_whole(packed: Vec<u32>, number: u64, later: usize) -> Result<Vec<u32>, AllocError>
+    ensures number { IfOk result (λ with. with.items ≡ packed.items ++ packed_whole number) }
+    ensures room { IfOk result (λ with. vec_len with + later ≤ vec_capacity with) }
 {
     let rank = (number / RANK_STEP).min(SHORT_RANKS);
     let lead = RANK_STEP + 2 * rank + 1;
     let (high, low) = (number / 4_294_967_296, number % 4_294_967_296);
-    packed.extend_from_slice(&[lead as u32, high as u32, low as u32])?;
-    Ok(())
+    let mut with = packed;
+    with.extend_from_slice(&[lead as u32, high as u32, low as u32])?;
+    with.reserve(later)?;
+    Ok(with)
 }
 
 /// The law of packed keys: they are ordered, as lists of numbers, as the keys are.

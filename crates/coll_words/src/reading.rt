@@ -1,9 +1,9 @@
 //! The words of an input are read, each with its key.
 //!
 //! The lines are cut as everywhere; the first that is too long, one too many, or not UTF-8 is the answer, and then no word is handed
-//! out.
+//! out. Where the words are put is told by `taking_words`.
 
-ghost use Rattle.std.specs.Prelude.{◌≡◌, ◌≤◌, ◌+◌, [], chars, length, false, IfOk, IfErr, OnOk};
+ghost use Rattle.std.specs.Prelude.{◌≡◌, ◌≤◌, ◌+◌, [], length, IfOk, IfErr, OnOk};
 ghost use Rattle.coll_devices.specs.LineReading.{no_line};
 ghost use Rattle.coll_devices.specs.Limits.{most_line_bytes};
 ghost use Rattle.coll_lex.specs.Limits.{most_lines};
@@ -14,11 +14,12 @@ ghost use Rattle.coll_bench.specs.BatchReading.{FailsAs, WritesNone, stopped_in}
 ghost use Rattle.coll_bench.specs.BatchRuns.{ending_of};
 ghost use Rattle.coll_words.specs.KeyedWords.{AreKeyed};
 ghost use Rattle.coll_bench.specs.declared.faults.Fault.TheVariants.{Lex};
-ghost use Rattle.coll_key.specs.KeyLimits.{is_too_long};
 ghost use Rattle.coll_lex.specs.declared.faults.LexFault.TheVariants.{OutOfMemory};
-ghost use Rattle.coll_words.specs.WordReading.{AreWordsOf, ReadingFails, CountsReading, PutsWord, TakesLine};
-ghost use Rattle.coll_words.specs.Words.{line_word, unless_long};
+ghost use Rattle.coll_words.specs.WordReading.{AreWordsOf, ReadingFails, CountsReading, TakesLine};
+ghost use Rattle.coll_words.specs.Words.{line_word};
 
+use crate::stored_words::{StoredWords, WordStore};
+use crate::taking_words::TakesWords;
 use crate::words::Word;
 use coll_bench::{Fault, RunFault};
 use coll_devices::{LineReader, ReadStop, Source, without_return};
@@ -44,9 +45,57 @@ pub fn read_words<R: Source>(
     ensures writes { IfErr result (λ ended. WritesNone ended) }
     ensures reads { CountsReading (R.failed input.old) (R.failed input.new) result }
 {
+    let mut words = Vec::new(alloc);
+    match read_into(alloc, table, input, &mut words) {
+        Ok(()) => Ok(words),
+        Err(ended) => {
+            drop(words);
+            Err(ended)
+        }
+    }
+}
+
+/// Reads the words of an input, in the same way, into a store of them all.
+pub(crate) fn read_stored_words<R: Source>(
+    alloc: Global,
+    table: &Table,
+    input: &mut R,
+) -> Result<StoredWords, RunFault>
+    ensures words { IfOk result (λ words. AreWordsOf (R.left input.old) words) }
+    ensures fault { IfErr result (λ ended. ReadingFails (R.left input.old) (R.left input.new) ended) }
+    ensures keyed { IfOk result (λ words. AreKeyed (collation table.now) words) }
+    ensures input { IfErr result (λ ended. ended.input ≡ 0) }
+    ensures writes { IfErr result (λ ended. WritesNone ended) }
+    ensures reads { CountsReading (R.failed input.old) (R.failed input.new) result }
+{
+    let mut store = WordStore::new(alloc);
+    match read_into(alloc, table, input, &mut store) {
+        Ok(()) => Ok(store.into_words()),
+        Err(ended) => {
+            drop(store);
+            Err(ended)
+        }
+    }
+}
+
+// Reads the words of an input, and puts them where there are none.
+fn read_into<R: Source, L: TakesWords>(
+    alloc: Global,
+    table: &Table,
+    input: &mut R,
+    words: &mut L,
+) -> Result<(), RunFault>
+    requires none { L.words words.old ≡ [] }
+    ensures words { OnOk result (AreWordsOf (R.left input.old) (L.words words.new)) }
+    ensures fault { IfErr result (λ ended. ReadingFails (R.left input.old) (R.left input.new) ended) }
+    ensures keyed { OnOk result (AreKeyed (collation table.now) (L.words words.new)) }
+    ensures input { IfErr result (λ ended. ended.input ≡ 0) }
+    ensures writes { IfErr result (λ ended. WritesNone ended) }
+    ensures reads { CountsReading (R.failed input.old) (R.failed input.new) result }
+{
     match Ranks::new(alloc, table) {
         Ok(ranks) => {
-            let read = read_by_ranks(alloc, table, &ranks, input);
+            let read = read_by_ranks(alloc, table, &ranks, input, words);
             drop(ranks);
             read
         }
@@ -54,53 +103,48 @@ pub fn read_words<R: Source>(
     }
 }
 
-// Reads the words of an input, by the ranks of the table.
-fn read_by_ranks<R: Source>(
+// Reads the words of an input, by the ranks of the table, and puts them where there are none.
+fn read_by_ranks<R: Source, L: TakesWords>(
     alloc: Global,
     table: &Table,
     ranks: &Ranks,
     input: &mut R,
-) -> Result<Vec<Word>, RunFault>
-    requires { AreRanksOf ranks.now (collation table.now) }
-    ensures words { IfOk result (λ words. AreWordsOf (R.left input.old) words.items) }
+    words: &mut L,
+) -> Result<(), RunFault>
+    requires ranks { AreRanksOf ranks.now (collation table.now) }
+    requires none { L.words words.old ≡ [] }
+    ensures words { OnOk result (AreWordsOf (R.left input.old) (L.words words.new)) }
     ensures fault { IfErr result (λ ended. ReadingFails (R.left input.old) (R.left input.new) ended) }
-    ensures keyed { IfOk result (λ words. AreKeyed (collation table.now) words.items) }
+    ensures keyed { OnOk result (AreKeyed (collation table.now) (L.words words.new)) }
     ensures input { IfErr result (λ ended. ended.input ≡ 0) }
     ensures writes { IfErr result (λ ended. WritesNone ended) }
     ensures reads { CountsReading (R.failed input.old) (R.failed input.new) result }
 {
     match LineReader::new(alloc) {
         Ok(mut reader) => {
-            let mut words = Vec::new(alloc);
-            let read = read_lines(alloc, table, ranks, &mut reader, input, &mut words);
+            let read = read_lines(alloc, table, ranks, &mut reader, input, words);
             drop(reader);
-            match read {
-                Ok(()) => Ok(words),
-                Err(ended) => {
-                    drop(words);
-                    Err(ended)
-                }
-            }
+            read
         }
         Err(_) => Err(no_memory(0)),
     }
 }
 
-// Reads the lines of an input, of which none was read yet, and puts the word of each into a list.
-fn read_lines<R: Source>(
+// Reads the lines of an input, of which none was read yet, and puts the word of each where there are none.
+fn read_lines<R: Source, L: TakesWords>(
     alloc: Global,
     table: &Table,
     ranks: &Ranks,
     reader: &mut LineReader,
     input: &mut R,
-    words: &mut Vec<Word>,
+    words: &mut L,
 ) -> Result<(), RunFault>
     requires ranks { AreRanksOf ranks.now (collation table.now) }
     requires reader { reader.old ≡ no_line }
-    requires none { words.old.items ≡ [] }
-    ensures words { OnOk result (AreWordsOf (R.left input.old) words.new.items) }
+    requires none { L.words words.old ≡ [] }
+    ensures words { OnOk result (AreWordsOf (R.left input.old) (L.words words.new)) }
     ensures fault { IfErr result (λ ended. ReadingFails (R.left input.old) (R.left input.new) ended) }
-    ensures keyed { OnOk result (AreKeyed (collation table.now) words.new.items) }
+    ensures keyed { OnOk result (AreKeyed (collation table.now) (L.words words.new)) }
     ensures input { IfErr result (λ ended. ended.input ≡ 0) }
     ensures writes { IfErr result (λ ended. WritesNone ended) }
     ensures reads { CountsReading (R.failed input.old) (R.failed input.new) result }
@@ -114,69 +158,44 @@ fn read_lines<R: Source>(
                 }
             }
             Ok(false) => return Ok(()),
-            Err(stop) => return Err(stop_fault(next_number(words.as_slice()), stop)),
+            Err(stop) => return Err(stop_fault(next_number(words.count()), stop)),
         }
     }
 }
 
 // Puts the word of a line behind those of the lines before it.
-fn take_line(
+fn take_line<L: TakesWords>(
     alloc: Global,
     table: &Table,
     ranks: &Ranks,
     line: &[u8],
-    words: &mut Vec<Word>,
+    words: &mut L,
 ) -> Result<(), RunFault>
     requires ranks { AreRanksOf ranks.now (collation table.now) }
     requires short { length line.now ≤ most_line_bytes }
-    requires few { length words.old.items ≤ most_lines }
-    ensures ok { OnOk result (TakesLine (collation table.now) words.old.items line.now words.new.items) }
-    ensures room { OnOk result (length words.new.items ≤ most_lines) }
-    ensures err { IfErr result (λ ended. FailsAs (ending_of ended) (line_word (length words.old.items) line.now) ended) }
-    ensures number { IfErr result (λ ended. ended.line ≡ length words.old.items + 1) }
+    requires few { length (L.words words.old) ≤ most_lines }
+    ensures ok { OnOk result (TakesLine (collation table.now) (L.words words.old) line.now (L.words words.new)) }
+    ensures room { OnOk result (length (L.words words.new) ≤ most_lines) }
+    ensures err { IfErr result (λ ended. FailsAs (ending_of ended) (line_word (length (L.words words.old)) line.now) ended) }
+    ensures number { IfErr result (λ ended. ended.line ≡ length (L.words words.old) + 1) }
     ensures input { IfErr result (λ ended. ended.input ≡ 0) }
 {
-    let number = next_number(words.as_slice());
+    let number = next_number(words.count());
     if number > MOST_LINES {
         return Err(fault_at(number, Fault::Lex(LexFault::TooManyLines)));
     }
     match str::from_utf8(without_return(line)) {
-        Ok(text) => put_word(alloc, table, ranks, number, text, words),
+        Ok(text) => words.put(alloc, table, ranks, number, text),
         Err(_) => Err(fault_at(number, Fault::Lex(LexFault::NotUtf8))),
     }
 }
 
-// Puts a word behind others, that of the line with this number.
-fn put_word(
-    alloc: Global,
-    table: &Table,
-    ranks: &Ranks,
-    number: u32,
-    text: &str,
-    words: &mut Vec<Word>,
-) -> Result<(), RunFault>
-    requires ranks { AreRanksOf ranks.now (collation table.now) }
-    ensures ok { OnOk result (PutsWord (collation table.now) words.old.items (chars text.now) words.new.items) }
-    ensures short { OnOk result (is_too_long (chars text.now) ≡ false) }
-    ensures err { IfErr result (λ ended. FailsAs (ending_of ended) (unless_long number (chars text.now)) ended) }
-    ensures number { IfErr result (λ ended. ended.line ≡ number) }
-    ensures input { IfErr result (λ ended. ended.input ≡ 0) }
+// The number of the line behind this many.
+fn next_number(words: usize) -> u32
+    requires { words ≤ most_lines }
+    ensures { result ≡ words + 1 }
 {
-    match Word::new(alloc, table, ranks, text) {
-        Ok(word) => match words.push(word) {
-            Ok(()) => Ok(()),
-            Err(_) => Err(no_memory(number)),
-        },
-        Err(fault) => Err(fault_at(number, Fault::Key(fault))),
-    }
-}
-
-// The number of the line behind those of these words.
-fn next_number(words: &[Word]) -> u32
-    requires { length words.now ≤ most_lines }
-    ensures { result ≡ length words.now + 1 }
-{
-    words.len() as u32 + 1
+    words as u32 + 1
 }
 
 /// The fault that is answered where the reader stops before the line with this number.

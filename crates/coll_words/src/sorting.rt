@@ -3,24 +3,22 @@
 //! `sort_lines` carries the theorem of a sort (`SortRuns`). All lines are read before the first byte is written, and nothing is
 //! written where one is at fault.
 
-ghost use Rattle.std.specs.Prelude.{◌≡◌, IfErr};
+ghost use Rattle.std.specs.Prelude.{◌≡◌, IfErr, IfOk};
 ghost use Rattle.coll_devices.specs.Devices.{Sends};
 ghost use Rattle.coll_nodes.specs.TableLayout.{collation};
-ghost use Rattle.coll_bench.specs.BatchOutcome.{fault_in};
-ghost use Rattle.coll_bench.specs.BatchReading.{starved_in};
 ghost use Rattle.coll_bench.specs.Serving.{CountsWrites, ReadsNone, write_failed};
 ghost use Rattle.coll_words.specs.KeyedWords.{texts_of};
-ghost use Rattle.coll_words.specs.SortRuns.{SortRuns, WritesSorted};
+ghost use Rattle.coll_words.specs.SortRuns.{SortRuns, SortsWords, WritesSorted};
 ghost use Rattle.coll_words.specs.WordReading.{CountsReading};
 ghost use Rattle.coll_words.specs.Words.{written_words};
 
-use crate::reading::read_words;
-use crate::words::{Word, sort_by_keys, write_words};
+use crate::lent_words::{LentWord, sort_lent_words, write_lent_words};
+use crate::reading::{fault_at, no_memory, read_stored_words};
+use crate::stored_words::StoredWords;
 use coll_bench::{Fault, RunFault};
 use coll_devices::{Sink, Source, WriteStop};
-use coll_lex::LexFault;
 use coll_table::Table;
-use std::alloc::Global;
+use std::alloc::{AllocError, Global};
 
 /// Reads the lines of an input, and writes them in the order of a table, each with a line feed. Lines that compare equal stay in the
 /// order in which they came.
@@ -40,9 +38,9 @@ pub fn sort_lines<R: Source, W: Sink>(
     ensures writes { CountsWrites (W.failed output.old) (W.failed output.new) result }
 {
     table.lemma_well_formed();
-    match read_words(alloc, table, input) {
-        Ok(mut words) => {
-            let wrote = write_sorted(&mut words, output);
+    match read_stored_words(alloc, table, input) {
+        Ok(words) => {
+            let wrote = write_sorted(alloc, &words, output);
             drop(words);
             wrote
         }
@@ -51,44 +49,39 @@ pub fn sort_lines<R: Source, W: Sink>(
 }
 
 // Sorts words, and writes them.
-fn write_sorted<W: Sink>(words: &mut Vec<Word>, output: &mut W) -> Result<(), RunFault>
-    ensures run { WritesSorted words.old.items (W.taken output.old) (W.taken output.new) result }
+fn write_sorted<W: Sink>(alloc: Global, words: &StoredWords, output: &mut W) -> Result<(), RunFault>
+    ensures run { WritesSorted words.now (W.taken output.old) (W.taken output.new) result }
     ensures input { IfErr result (λ ended. ended.input ≡ 0) }
     ensures reads { IfErr result (λ ended. ReadsNone ended) }
     ensures writes { CountsWrites (W.failed output.old) (W.failed output.new) result }
 {
-    match sort_by_keys(words) {
-        Ok(()) => write_all(words, output),
-        Err(_) => Err(no_memory()),
+    match sorted(alloc, words) {
+        Ok(lent) => {
+            let wrote = write_all(&lent, output);
+            drop(lent);
+            wrote
+        }
+        Err(_) => Err(no_memory(0)),
     }
 }
 
+// Lends words in their order.
+fn sorted(alloc: Global, words: &StoredWords) -> Result<Vec<LentWord<'_>>, AllocError>
+    ensures { IfOk result (λ lent. SortsWords words.now (texts_of lent.items)) }
+{
+    let mut lent = words.lend(alloc)?;
+    sort_lent_words(&mut lent)?;
+    Ok(lent)
+}
+
 // Writes words that are sorted.
-fn write_all<W: Sink>(words: &[Word], output: &mut W) -> Result<(), RunFault>
+fn write_all<W: Sink>(words: &[LentWord<'_>], output: &mut W) -> Result<(), RunFault>
     ensures sent { Sends (W.taken output.old) (W.taken output.new) (written_words (texts_of words.now)) result }
     ensures fault { IfErr result (λ ended. ended ≡ write_failed) }
     ensures writes { CountsWrites (W.failed output.old) (W.failed output.new) result }
 {
-    match write_words(words, output) {
+    match write_lent_words(words, output) {
         Ok(()) => Ok(()),
-        Err(_) => Err(no_line(Fault::Write(WriteStop::WriteFault))),
-    }
-}
-
-// Lack of memory behind the lines.
-fn no_memory() -> RunFault
-    ensures { result ≡ starved_in 0 }
-{
-    no_line(Fault::Lex(LexFault::OutOfMemory))
-}
-
-// A fault that comes from no line.
-fn no_line(fault: Fault) -> RunFault
-    ensures { result ≡ fault_in 0 0 fault }
-{
-    RunFault {
-        input: 0,
-        line: 0,
-        fault,
+        Err(_) => Err(fault_at(0, Fault::Write(WriteStop::WriteFault))),
     }
 }

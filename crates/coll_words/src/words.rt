@@ -9,6 +9,9 @@ ghost use Rattle.coll_words.specs.SortRuns.{SortsWords};
 ghost use Rattle.coll_words.specs.Words.{written_word, written_words};
 
 use crate::packed_keys::packed_key;
+use crate::reading::{fault_at, no_memory};
+use crate::taking_words::TakesWords;
+use coll_bench::{Fault, RunFault};
 use coll_devices::{Sink, WriteStop};
 use coll_key::{KeyFault, Ranks, key};
 use coll_lex::TextBuf;
@@ -111,13 +114,38 @@ fn lead_of(key: &[u32]) -> [u32; LEAD_NUMBERS]
     ]
 }
 
-// The number at a place, or 0 where there is none.
-fn number_at(key: &[u32], place: usize) -> u32
+/// The number of a key at a place, or 0 where there is none.
+pub(crate) fn number_at(key: &[u32], place: usize) -> u32
     ensures { result ≡ slice_index_or key.now place 0 }
 {
     match key.get(place) {
         Some(number) => *number,
         None => 0,
+    }
+}
+
+impl TakesWords for Vec<Word> {
+    ghost words = { λ words. words.items };
+
+    fn count(&self) -> usize {
+        self.len()
+    }
+
+    fn put(
+        &mut self,
+        alloc: Global,
+        table: &Table,
+        ranks: &Ranks,
+        number: u32,
+        text: &str,
+    ) -> Result<(), RunFault> {
+        match Word::new(alloc, table, ranks, text) {
+            Ok(word) => match self.push(word) {
+                Ok(()) => Ok(()),
+                Err(_) => Err(no_memory(number)),
+            },
+            Err(fault) => Err(fault_at(number, Fault::Key(fault))),
+        }
     }
 }
 

@@ -8,12 +8,12 @@ use Rattle.coll_words.proofs.reading.read_lines.Given as goal
 
 abbrev pub invariant-lines : goal.invariant-lines
 invariant-lines g l = record {
-  way : OnWay (g.R.Source.left l.initial.input) l.reader (g.R.Source.left l.input) (texts_of l.words.items);
-  keyed : AreKeyed (collation l.table) l.words.items;
-  few : length l.words.items ≤ most_lines;
+  way : OnWay (g.R.Source.left l.initial.input) l.reader (g.R.Source.left l.input) (texts_of (g.L.TakesWords.words l.words));
+  keyed : AreKeyed (collation l.table) (g.L.TakesWords.words l.words);
+  few : length (g.L.TakesWords.words l.words) ≤ most_lines;
   errors : g.R.Source.failed l.input ≡ g.R.Source.failed l.initial.input;
   goes_on : l.reader.stop ≡ None;
 }
 
 abbrev pub decreases-lines : goal.decreases-lines
-decreases-lines g l = most_lines - length l.words.items
+decreases-lines g l = most_lines - length (g.L.TakesWords.words l.words)

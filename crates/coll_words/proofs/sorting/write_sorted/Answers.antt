@@ -9,7 +9,7 @@ use Rattle.coll_words.proofs.sorting.write_sorted.Goals as goal
 pub returns-in-Ok-clause-run : goal.returns-in-Ok-clause-run
 returns-in-Ok-clause-run g c =
     let taken = g.W.Sink.taken in
-    writes c.args.words.now.items (texts_of c.sort_by_keys.new.words.items) (taken c.args.output.now) (taken c.write_all.new.output) c.write_all.result c.in-Ok.ensures.sorted
-    (subst (λ (sorted : List KeyedWord). Sends (taken c.args.output.now) (taken c.write_all.new.output) (written_words (texts_of sorted)) c.write_all.result)
-    c.deref.ensures.value c.write_all.ensures.sent)
-    c.write_all.ensures.fault
+    writes c.args.words.now (texts_of c.in-Ok.lent.items) (taken c.args.output.now) (taken c.write_all-wrote.new.output) c.write_all-wrote.result c.in-Ok.ensures
+    (subst (λ (sorted : List KeyedWord). Sends (taken c.args.output.now) (taken c.write_all-wrote.new.output) (written_words (texts_of sorted)) c.write_all-wrote.result)
+    c.deref.ensures.value c.write_all-wrote.ensures.sent)
+    c.write_all-wrote.ensures.fault
