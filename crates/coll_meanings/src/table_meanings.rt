@@ -42,6 +42,34 @@ struct Known {
     by_table: bool,
 }
 
+// What has declared a name.
+#[derive(Clone, Copy)]
+struct Taken {
+    // Whether the table that is tailored has, and no line of the source.
+    by_table: bool,
+    // Whether it is a symbol.
+    is_symbol: bool,
+}
+
+// When a declaration is like the one that has declared its name before.
+#[derive(Clone, Copy)]
+enum Alike {
+    // Where that is a symbol's.
+    IfSymbol,
+    // That is known.
+    Known(bool),
+}
+
+impl Alike {
+    // Whether it is like the one that has declared its name.
+    fn is_told_by(self, taken: Taken) -> bool {
+        match self {
+            Alike::IfSymbol => taken.is_symbol,
+            Alike::Known(alike) => alike,
+        }
+    }
+}
+
 /// All names that are declared, over a table that is tailored.
 #[derive(Drop)]
 pub struct TableMeanings<'t> {
@@ -246,8 +274,7 @@ impl<'t> TableMeanings<'t> {
         name: &TextBuf,
         report: &mut Report,
     ) -> Result<(), SourceFault> {
-        let alike = self.means_symbol(name)?;
-        if self.is_taken(place, name, alike, report)? {
+        if self.is_taken(place, name, Alike::IfSymbol, report)? {
             return Ok(());
         }
         let statement = Statement::Symbol(name.try_copy()?);
@@ -278,7 +305,7 @@ impl<'t> TableMeanings<'t> {
         report: &mut Report,
     ) -> Result<(), SourceFault> {
         self.know_strings()?;
-        let alike = self.has_string(name, text);
+        let alike = Alike::Known(self.has_string(name, text));
         if self.is_taken(place, name, alike, report)? {
             return Ok(());
         }
@@ -389,7 +416,7 @@ impl<'t> TableMeanings<'t> {
         let Some(own) = self.own_symbol(symbol)? else {
             return lose(report, Adjustment::Dropped, place, name);
         };
-        let alike = self.is_second_of(name, &own);
+        let alike = Alike::Known(self.is_second_of(name, &own));
         match self.is_taken(place, name, alike, report) {
             Ok(false) => self.declare_second(place, name, own),
             Ok(true) => {
@@ -496,19 +523,19 @@ impl<'t> TableMeanings<'t> {
         &mut self,
         place: SourcePlace,
         name: &TextBuf,
-        alike: bool,
+        alike: Alike,
         report: &mut Report,
     ) -> Result<bool, SourceFault> {
         if !is_name(name.get()) {
             lose(report, Adjustment::Dropped, place, name)?;
             return Ok(true);
         }
-        let Some(by_table) = self.declared_by_table(name)? else {
+        let Some(taken) = self.taken_by(name)? else {
             return Ok(false);
         };
-        if by_table && alike {
+        if taken.by_table && alike.is_told_by(taken) {
             report.count(Adjustment::DeclaredAlready, place)?;
-        } else if by_table {
+        } else if taken.by_table {
             lose(report, Adjustment::DeclaredAlready, place, name)?;
         } else {
             lose(report, Adjustment::Dropped, place, name)?;
@@ -516,18 +543,24 @@ impl<'t> TableMeanings<'t> {
         Ok(true)
     }
 
-    // Whether a name is declared by the table that is tailored, and by no line of the source yet, if it is declared. From now on a line
-    // has declared it.
-    fn declared_by_table(&mut self, name: &TextBuf) -> Result<Option<bool>, AllocError> {
+    // What has declared a name, if anything has. From now on a line of the source has.
+    fn taken_by(&mut self, name: &TextBuf) -> Result<Option<Taken>, AllocError> {
         if let Some(known) = self.names.get_mut(name.get()) {
-            let by_table = known.by_table;
+            let taken = Taken {
+                by_table: known.by_table,
+                is_symbol: matches!(known.meaning, Meaning::Symbol),
+            };
             known.by_table = false;
-            return Ok(Some(by_table));
+            return Ok(Some(taken));
         }
         match self.meant_by_table(name)? {
             Some(meaning) => {
+                let is_symbol = matches!(meaning, Meaning::Symbol);
                 self.mean(name.get(), meaning, false)?;
-                Ok(Some(true))
+                Ok(Some(Taken {
+                    by_table: true,
+                    is_symbol,
+                }))
             }
             None => Ok(None),
         }

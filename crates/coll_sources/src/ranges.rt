@@ -1,4 +1,6 @@
 //! Ranges of names: letters that all have, and then a number of as many digits in each.
+//!
+//! A name is spelled in room that is asked for once, and kept as short texts are, which take no memory.
 
 ghost use Rattle.std.specs.Prelude.{◌≡◌, ◌<◌, ◌≤◌, ◌++◌, chars, string_bytes, IfOk, OnOk};
 ghost use Rattle.coll_lex.specs.Spelling.{hex_digit};
@@ -113,9 +115,11 @@ fn with_digit(number: u32, digit: u8, spelled: Digits) -> Option<u32> {
 pub fn name_at(alloc: Global, range: &NameRange, number: u32) -> Result<TextBuf, AllocError>
     ensures { IfOk result (λ name. name ≡ range_name range.now number) }
 {
-    let mut name = String::from_str(alloc, range.letters.get())?;
+    let letters = range.letters.get();
+    let mut name = String::with_capacity(alloc, letters.len().saturating_add(range.width))?;
+    name.push_str(letters)?;
     push_digits(&mut name, range.digits.base(), range.width, number)?;
-    Ok(TextBuf::new(name))
+    TextBuf::copied(alloc, name.as_str())
 }
 
 // Puts the last digits of a number at the end of a name, as many as are asked for.
