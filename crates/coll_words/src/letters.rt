@@ -1,8 +1,10 @@
 //! The characters that words have, each once.
 //!
 //! They are gathered once for a list of words, since no statement gives a word another character, and some times more where elements
-//! were declared. Where many words may hold a collating element, or the characters are many, words are not compared by their
-//! characters. What is kept here is looked at again wherever it is used, so no contract speaks of it but of which characters are there.
+//! were declared. Where the words that may hold a collating element are long together, a word is long by itself, or the characters are
+//! many, words are not compared by their characters: a pair that these leave undecided takes time by the length of both words, whatever
+//! they begin with. What is kept here is looked at again wherever it is used, so no contract speaks of it but of which characters are
+//! there.
 
 use crate::element_marks::ElementMarks;
 use crate::letter_weights::split_first_char;
@@ -10,8 +12,8 @@ use crate::listed_words::ListedWord;
 use coll_elements::CodePoints;
 use std::alloc::{AllocError, Global};
 
-// One of so many words may hold an element; where more may, words are not compared by their characters.
-const PLAIN_FOR_ONE: usize = 64;
+// A word of more bytes is not compared by its characters.
+const MOST_WORD_BYTES: usize = 128;
 
 // How often the characters of a list are gathered at most: a delta file may declare an element before each other statement.
 const MOST_TIMES: u32 = 8;
@@ -23,7 +25,7 @@ pub(crate) struct Letters {
     pub text: String,
     /// Of each character its place among them, from 1.
     pub places: CodePoints,
-    /// Whether no character was left out, and few words may hold an element.
+    /// Whether no character was left out, no word is long, and those that may hold an element are few.
     pub all: bool,
     /// How many elements were declared when they were gathered.
     pub elements: usize,
@@ -34,13 +36,14 @@ pub(crate) struct Letters {
 }
 
 impl Letters {
-    /// The characters of the words of a list, no more than so many. The marks tell where an element may stand. They were gathered so
-    /// often before.
+    /// The characters of the words of a list, no more than so many. The marks tell where an element may stand, and the words that may
+    /// hold one have no more bytes together than are given. They were gathered so often before.
     pub fn of(
         alloc: Global,
         list: &[ListedWord],
         marks: &ElementMarks,
         most: usize,
+        most_joined: usize,
         times: u32,
     ) -> Result<Letters, AllocError> {
         let mut letters = Letters {
@@ -51,16 +54,16 @@ impl Letters {
             times: times.saturating_add(1),
             count: 0,
         };
-        let mut left = list.len() / PLAIN_FOR_ONE;
+        let mut left = most_joined;
         for listed in list {
-            if !letters.all {
+            let word = listed.word.text();
+            if !letters.all || word.len() > MOST_WORD_BYTES {
+                letters.all = false;
                 return Ok(letters);
             }
-            if letters.add_all(listed.word.text(), marks, most)? {
-                if left == 0 {
-                    letters.all = false;
-                }
-                left = left.saturating_sub(1);
+            if letters.add_all(word, marks, most)? {
+                letters.all = letters.all && word.len() <= left;
+                left = left.saturating_sub(word.len());
             }
         }
         Ok(letters)

@@ -29,6 +29,10 @@ const FEW_LETTERS: usize = 64;
 // For so many entries of the table it is one more.
 const ENTRIES_A_LETTER: usize = 32;
 
+// For so many entries of the table the words that may hold an element have one byte together. Such words are compared by their texts,
+// which takes for each byte, in the few comparisons that a word has behind a statement, about as long as the ranks of so many entries.
+const ENTRIES_A_JOINED_BYTE: usize = 32;
+
 /// What is kept for a list of words from statement to statement.
 #[derive(Drop)]
 pub(crate) struct Looks {
@@ -125,7 +129,15 @@ fn look_at_letters(
     let marks = ElementMarks::of(alloc, table)?;
     if !are_of(kept, &marks) {
         let times = times_gathered(kept);
-        let letters = Letters::of(alloc, list, &marks, most_letters(table), times)?;
+        let most_joined = table.len() / ENTRIES_A_JOINED_BYTE;
+        let letters = Letters::of(
+            alloc,
+            list,
+            &marks,
+            most_letters(table),
+            most_joined,
+            times,
+        )?;
         drop(kept.replace(letters));
     }
     if are_apart(kept, &marks) {
