@@ -2,7 +2,7 @@
 //!
 //! A character without an entry stands where `UNDEFINED` does, or behind all entries where that has none; its neighbours are those of
 //! this place. None of this takes memory. One walk finds the place, keeps the entries that it met last, and goes on behind it only as
-//! far as neighbours are shown. What `tests/runs` shows of it was written when there was a walk for each of these, and each was whole.
+//! far as neighbours are shown. No contract says what is shown: runs of `tests/runs` do.
 
 use crate::replies::{flush, write_refusal};
 use crate::weights::write_weighed;

@@ -19,6 +19,9 @@ use std::alloc::{AllocError, Global};
 // For so many entries of the table words may have one character: it is looked up in some half of the time that their ranks take.
 const ENTRIES_A_CHARACTER: usize = 16;
 
+// As long as so many characters a word takes by itself, also one that has none: what UNDEFINED weighs is looked up for it.
+const CHARACTERS_A_WORD: usize = 8;
+
 /// What the keys of words are made by.
 #[derive(Drop)]
 pub(crate) enum WordKeys<'a> {
@@ -29,7 +32,8 @@ pub(crate) enum WordKeys<'a> {
 }
 
 impl<'a> WordKeys<'a> {
-    /// What the keys of words are made by in a table, where they have so many characters. The numbers are given anew, or stay.
+    /// What the keys of words are made by in a table, where so many characters are looked up for them. The numbers are given anew, or
+    /// stay.
     pub fn new(
         alloc: Global,
         table: &Table,
@@ -58,6 +62,11 @@ impl<'a> WordKeys<'a> {
             WordKeys::ByRanks(ranks) => Word::new(alloc, table, ranks, text),
         }
     }
+}
+
+/// How many characters are looked up for the key of a word, and what it takes by itself as such.
+pub(crate) fn looks_for(text: &str) -> usize {
+    text.chars().count().saturating_add(CHARACTERS_A_WORD)
 }
 
 // Whether so many characters are few beside a table.

@@ -10,7 +10,7 @@ ghost use Rattle.coll_bench.specs.Serving.{block_of, history_of, lexer_of};
 ghost use Rattle.coll_edit.specs.WordKeys.{Serves};
 
 use crate::replies::write_count;
-use crate::word_keys::WordKeys;
+use crate::word_keys::{WordKeys, looks_for};
 use coll_bench::{Fault, RunFault, RunState, write_failed};
 use coll_devices::{Sink, Source, WriteStop};
 use coll_key::{EntryNumbers, KeyFault};
@@ -117,7 +117,7 @@ fn keyed(
     numbers: &mut EntryNumbers,
     texts: Vec<TextBuf>,
 ) -> Result<Vec<ListedWord>, RunFault> {
-    match WordKeys::new(alloc, table, numbers, characters_in(&texts)) {
+    match WordKeys::new(alloc, table, numbers, looks_for_texts(&texts)) {
         Ok(keys) => {
             let list = listed(alloc, table, &keys, texts);
             drop(keys);
@@ -130,13 +130,13 @@ fn keyed(
     }
 }
 
-// How many characters texts have together.
-fn characters_in(texts: &[TextBuf]) -> usize {
-    let mut count = 0usize;
+// How many characters the keys of texts are looked up for.
+fn looks_for_texts(texts: &[TextBuf]) -> usize {
+    let mut looks = 0usize;
     for text in texts {
-        count = count.saturating_add(text.get().chars().count());
+        looks = looks.saturating_add(looks_for(text.get()));
     }
-    count
+    looks
 }
 
 // Texts as words with the numbers of their lines, from 1.
@@ -230,7 +230,7 @@ fn sort_anew(
     numbers: &mut EntryNumbers,
     list: &mut Vec<ListedWord>,
 ) -> Result<(), KeyFault> {
-    let keys = WordKeys::new(alloc, table, numbers, characters_of(list))?;
+    let keys = WordKeys::new(alloc, table, numbers, looks_for_words(list))?;
     let keyed = key_anew(alloc, table, &keys, list);
     drop(keys);
     keyed?;
@@ -238,13 +238,13 @@ fn sort_anew(
     Ok(())
 }
 
-// How many characters the words of a list have together.
-fn characters_of(list: &[ListedWord]) -> usize {
-    let mut count = 0usize;
+// How many characters the keys of a list are looked up for.
+fn looks_for_words(list: &[ListedWord]) -> usize {
+    let mut looks = 0usize;
     for listed in list {
-        count = count.saturating_add(listed.word.text().chars().count());
+        looks = looks.saturating_add(looks_for(listed.word.text()));
     }
-    count
+    looks
 }
 
 // Sorts a list by its keys, and words with the same by their lines.
