@@ -106,7 +106,7 @@ text_refused next o s line bytes fault h t =
 -- lack of memory
 
 -- a reading that has a token or is cut short
-gathered : (next : LexerState) (o : OpenLine) (joined : Bool) (tokens : List Token) (stop : Stop) → gathers_by tokens stop ≡ true → stop_among stop ≡ true
+pub gathered : (next : LexerState) (o : OpenLine) (joined : Bool) (tokens : List Token) (stop : Stop) → gathers_by tokens stop ≡ true → stop_among stop ≡ true
     → needs_memory (answer_at next o joined tokens stop) ≡ true
 gathered next o joined tokens (AtFault fault) e f = f
 gathered next o joined [] AtComment e f = cc
@@ -131,7 +131,7 @@ text_starved next o s line bytes h t =
 -- the end of the physical line
 
 -- where a mode ends
-abbrev stop_in : Mode → Stop
+abbrev pub stop_in : Mode → Stop
 stop_in mode.Plain = AtEnd
 stop_in mode.Symbol = InSymbol
 stop_in mode.Text = InString
@@ -139,7 +139,7 @@ stop_in mode.SymbolInText = InSymbol
 stop_in mode.Comment = AtComment
 
 -- the tokens that a mode leaves at the end
-abbrev tokens_in : Mode → List ℕ → List Token
+abbrev pub tokens_in : Mode → List ℕ → List Token
 tokens_in mode.Plain partial = word_token partial
 tokens_in mode.Symbol partial = []
 tokens_in mode.Text partial = []
@@ -155,7 +155,7 @@ left_at_end comment mode.Text partial pieces = refl
 left_at_end comment mode.SymbolInText partial pieces = refl
 left_at_end comment mode.Comment partial pieces = refl
 
-after_at_end : (comment : ℕ) (s : Scan) → reading_left comment s [] ≡ record { tokens = s.tokens ++ tokens_in s.mode s.partial; stop = stop_in s.mode }
+pub after_at_end : (comment : ℕ) (s : Scan) → reading_left comment s [] ≡ record { tokens = s.tokens ++ tokens_in s.mode s.partial; stop = stop_in s.mode }
 unfolding reading_left
 after_at_end comment s = rw (left_at_end comment s.mode s.partial s.pieces) refl
 

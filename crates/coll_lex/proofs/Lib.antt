@@ -7,6 +7,7 @@ pub mod LineSteps
 pub mod ScanRows
 pub mod ScanLines
 pub mod SymbolLemmas
+pub mod PlainTextLemmas
 pub mod SymbolLineLemmas
 pub mod LineEnds
 pub mod FeedLemmas

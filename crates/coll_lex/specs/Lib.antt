@@ -11,6 +11,7 @@ pub mod Limits
 pub mod LogicalLines
 pub mod Marked
 pub mod Names
+pub mod PlainTexts
 pub mod ReadingBack
 pub mod Runs
 pub mod Scanning

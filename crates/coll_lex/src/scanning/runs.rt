@@ -50,7 +50,7 @@ pub(crate) fn name_length(escape: char, bytes: &[u8]) -> usize
 }
 
 /// How many bytes at the front are of a word.
-pub(super) fn word_length(special: Chars, bytes: &[u8]) -> usize
+pub(crate) fn word_length(special: Chars, bytes: &[u8]) -> usize
     ensures within { result ≤ length bytes.now }
     ensures plain { list_all (is_word_byte special) (take result bytes.now) ≡ true }
 {
@@ -63,7 +63,7 @@ pub(super) fn word_length(special: Chars, bytes: &[u8]) -> usize
 }
 
 /// Whether a text begins with a blank, a semicolon or a comma that isn't the escape character.
-pub(super) fn begins_with_separator(escape: char, text: &[u8]) -> bool
+pub(crate) fn begins_with_separator(escape: char, text: &[u8]) -> bool
     ensures { result ≡ begins_with_separator escape text.now }
 {
     match text.first() {
@@ -81,7 +81,7 @@ fn is_separator(escape: char, c: char) -> bool
 
 /// The name of the symbol that a text begins with, and what follows the symbol. None where it begins with none, or where
 /// the symbol has to be read character by character.
-pub(super) fn whole_symbol(escape: char, text: &str) -> Option<(&str, &str)>
+pub(crate) fn whole_symbol(escape: char, text: &str) -> Option<(&str, &str)>
     ensures { IfSome result (λ parts. BeginsWithSymbol escape text.now parts.0.now parts.1.now) }
 {
     let (first, inside) = text.as_bytes().split_first()?;

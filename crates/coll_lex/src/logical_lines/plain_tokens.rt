@@ -1,0 +1,130 @@
+//! Lines whose tokens are read where they stand.
+//!
+//! A line that makes no token is faster by far: who reads it asks for one token after another, and each is lent from the line, as
+//! long as it is a symbol or a word with no escape in it, or a semicolon. What is none of these is left to `feed`, which takes the
+//! line from its beginning. What a token is isn't stated here: each is that of the reading, proved from the moves of the scan.
+
+ghost use Rattle.std.specs.Prelude.{◌≡◌, ◌<◌, ◌==◌, ◌∷◌, ◌++◌, [], ◌+◌, length, false, true, chars, IsTrue, IsUtf8, None, Ok, Some, IfSome, IfNone};
+ghost use Rattle.std.specs.Bool.{OnTrue};
+ghost use Rattle.std.specs.List.{list_all};
+ghost use Rattle.coll_lex.specs.PlainTexts.{IsNext, IsPlainLine, IsWholeWord, Spells, plain_reading, token_in};
+ghost use Rattle.coll_lex.specs.Runs.{is_graphic};
+ghost use Rattle.coll_lex.specs.Tokens.{symbol_of};
+
+use super::{Lexer, text_of};
+use crate::blanks::is_blank;
+use crate::directives::directive;
+use crate::limits::MOST_NAME_CHARS;
+use crate::names::code_point;
+use crate::scanning::{begins_with_separator, whole_symbol, word_length};
+use crate::{Chars, MOST_LINES};
+use coll_devices::{MOST_LINE_BYTES, without_return};
+
+/// A token that a text begins with, lent where it stands.
+#[derive(Clone, Copy)]
+pub enum PlainToken<'a> {
+    /// A word.
+    Word(&'a str),
+    /// A symbol that is a name.
+    Symbol(&'a str),
+    /// A symbol that is a code point.
+    Char(char),
+    /// `;`
+    Semicolon,
+}
+
+// The token of a symbol, by the text between its brackets. None where it is at fault.
+fn symbol_token(name: &str) -> Option<PlainToken<'_>>
+    requires some { 0 < length name.now }
+    requires graphic { list_all is_graphic name.now ≡ true }
+    ensures { IfSome result (λ token. Spells (symbol_of (chars name.now)) (token_in token)) }
+{
+    if let Some(number) = code_point(name) {
+        let c = char::from_u32(number)?;
+        return Some(PlainToken::Char(c));
+    }
+    if name.len() > MOST_NAME_CHARS {
+        return None;
+    }
+    Some(PlainToken::Symbol(name))
+}
+
+// The word that a text begins with, and what follows it, where that is a separator or nothing.
+fn whole_word(special: Chars, text: &str) -> Option<(&str, &str)>
+    ensures { IfSome result (λ parts. IsWholeWord special text.now parts.0.now parts.1.now) }
+{
+    let length = word_length(special, text.as_bytes());
+    if length == 0 {
+        return None;
+    }
+    let (word, rest) = text.split_at(length);
+    if rest.is_empty() || begins_with_separator(special.escape, rest.as_bytes()) {
+        Some((word, rest))
+    } else {
+        None
+    }
+}
+
+impl Lexer {
+    ghost use Rattle.coll_lex.specs.LogicalLines.{dropped};
+    ghost use Rattle.coll_lex.specs.Marked.{is_joined};
+
+    /// The text of a line that is read by `plain_token`, if it begins a logical line and no test refuses it before it is read. Once it
+    /// is read to its end, `pass_line` counts it.
+    pub fn plain_text<'a>(&self, line: &'a [u8]) -> Option<&'a str>
+        ensures plain { IfSome result (λ text. IsPlainLine self.now line.now text.now) }
+        ensures alone { IfSome result (λ text. self.now.line ≡ None) }
+    {
+        if self.open.is_some() || self.count == MOST_LINES || line.len() > MOST_LINE_BYTES {
+            return None;
+        }
+        let bytes = without_return(line);
+        if directive(self.special, bytes).is_some() {
+            return None;
+        }
+        match text_of(bytes) {
+            Ok(text) => Some(text),
+            Err(_) => None,
+        }
+    }
+
+    /// The token that a text begins with, and what follows it. None where nothing is left, or where it has to be read otherwise.
+    pub fn plain_token<'a>(&self, text: &'a str) -> Option<(PlainToken<'a>, &'a str)>
+        ensures { IfSome result (λ next. IsNext self.now.special text.now (token_in next.0) next.1.now) }
+    {
+        if let Some((name, rest)) = whole_symbol(self.special.escape, text) {
+            let token = symbol_token(name)?;
+            return Some((token, rest));
+        }
+        if !begins_with_separator(self.special.escape, text.as_bytes()) {
+            let (word, rest) = whole_word(self.special, text)?;
+            return Some((PlainToken::Word(word), rest));
+        }
+        if text.as_bytes()[0] != b';' {
+            return None;
+        }
+        Some((PlainToken::Semicolon, &text[1..]))
+    }
+
+    /// The text without the blank that it begins with, if it does.
+    pub fn past_blank<'a>(&self, text: &'a str) -> &'a str
+        ensures reads { plain_reading self.now.special result.now ≡ plain_reading self.now.special text.now }
+        ensures ends { is_joined self.now.special.escape (chars result.now) ≡ is_joined self.now.special.escape (chars text.now) }
+    {
+        if !begins_with_separator(self.special.escape, text.as_bytes()) {
+            return text;
+        }
+        if is_blank(char::from(text.as_bytes()[0])) {
+            &text[1..]
+        } else {
+            text
+        }
+    }
+
+    /// Counts a line that was read where it stands.
+    pub fn pass_line(&mut self)
+        ensures { self.new ≡ dropped self.old }
+    {
+        self.drop_line();
+    }
+}
