@@ -106,8 +106,8 @@ fn weight(alloc: Global, token: &Token) -> Result<Weight, SyntaxFault>
     Ok(weight)
 }
 
-// The weight of one identifier.
-fn one_id(alloc: Global, id: Id) -> Result<Weight, AllocError>
+/// The weight of one identifier.
+pub(crate) fn one_id(alloc: Global, id: Id) -> Result<Weight, AllocError>
     ensures { IfOk result (λ weight. weight ≡ one_id id) }
 {
     let mut ids = Vec::with_capacity(alloc, 1)?;
