@@ -30,6 +30,7 @@ pub mod LoadEnds
 pub mod LoadSteps
 pub mod OwnRefusals
 pub mod OwnStatements
+pub mod PlainRows
 pub mod PreparedLemmas
 pub mod ReadTables
 pub mod RecordExtends

@@ -24,7 +24,7 @@ ghost use Rattle.coll_texts.specs.declared.load_faults.LoadCause.TheVariants.{Ou
 use crate::Table;
 use coll_lex::{Lexer, Line, TextBuf};
 use coll_lookups::HashKeys;
-use coll_syntax::{Id, OrderLine, TableLine, parse_kept_line};
+use coll_syntax::{Id, OrderLine, TableLine, parse_kept_line, parse_plain_order};
 use coll_texts::{LoadCause, LoadFault, TableBuilder};
 use std::alloc::{AllocError, Global};
 use std::marker::Model;
@@ -213,7 +213,7 @@ impl Loader {
     }
 
     // Takes a line of the category. One that is a symbol alone places it, and one that is a symbol behind its keyword declares it:
-    // most lines are so, and no token is made of them.
+    // most lines are so, and no token is made of them, nor of most that give a character weights.
     fn take_physical(&mut self, line: &[u8]) -> Result<(), LoadFault>
         requires { self.old.ended ≡ false }
         ensures ok { OnOk result (by_fed self.old (fed self.old.lexer line.now) ≡ Ok self.new) }
@@ -230,7 +230,35 @@ impl Loader {
         if let Some(name) = self.lexer.feed_symbol(b"collating-symbol", line) {
             return self.declare_name(number, name);
         }
-        self.take_fed(number, line)
+        self.take_plain(number, line)
+    }
+
+    // Takes a line of the category, which has this number: where it is the order line of a character with weights that can be lent,
+    // from its text, and otherwise token by token.
+    fn take_plain(&mut self, number: u32, line: &[u8]) -> Result<(), LoadFault>
+        requires number { number ≡ number_of self.old.lexer }
+        requires going { self.old.ended ≡ false }
+        ensures ok { OnOk result (by_fed self.old (fed self.old.lexer line.now) ≡ Ok self.new) }
+        ensures err { IfErr result (λ fault. fault.cause ≢ OutOfMemory → by_fed self.old (fed self.old.lexer line.now) ≡ Err fault) }
+        ensures memory { IfErr result (λ fault. fault.cause ≡ OutOfMemory → IsTrue (takes_memory self.old.lexer line.now)) }
+        ensures starved_at { IfErr result (λ fault. fault.cause ≡ OutOfMemory → fault.line ≡ number_of self.old.lexer) }
+        ensures cause { IfErr result (λ fault. IsLineCause fault.cause) }
+        ensures ended { OnErr result (self.new.ended ≡ self.old.ended) }
+    {
+        let Some(text) = self.lexer.plain_text(line) else {
+            return self.take_fed(number, line);
+        };
+        match parse_plain_order(self.alloc, &self.lexer, text) {
+            Ok(Some(order)) => {
+                self.lexer.pass_line();
+                self.take_read(number, TableLine::Order(order))
+            }
+            Ok(None) => self.take_fed(number, line),
+            Err(_) => {
+                self.lexer.pass_line();
+                Err(starved(number))
+            }
+        }
     }
 
     // Takes a line of the category, which has this number, token by token.
