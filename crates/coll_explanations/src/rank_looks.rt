@@ -4,7 +4,7 @@
 //! are only numbered, which is a much shorter pass, and what is asked for is looked up by itself. How many are few may change: what
 //! is told is the same.
 
-ghost use Rattle.std.specs.Prelude.{◌≡◌, ◌≢◌, ◌||◌, chars, length, suc, true, unwrap_or, IfErr, IfOk};
+ghost use Rattle.std.specs.Prelude.{◌≡◌, ◌≢◌, ◌||◌, chars, length, true, unwrap_or, IfErr, IfOk};
 ghost use Rattle.coll_nodes.specs.Table.{entries_of};
 ghost use Rattle.coll_nodes.specs.TableLayout.{collation};
 ghost use Rattle.coll_elements.specs.Rank.{known_rank, rank_unplaced};

@@ -130,14 +130,7 @@ fn look_at_letters(
     if !are_of(kept, &marks) {
         let times = times_gathered(kept);
         let most_joined = table.len() / ENTRIES_A_JOINED_BYTE;
-        let letters = Letters::of(
-            alloc,
-            list,
-            &marks,
-            most_letters(table),
-            most_joined,
-            times,
-        )?;
+        let letters = Letters::of(alloc, list, &marks, most_letters(table), most_joined, times)?;
         drop(kept.replace(letters));
     }
     if are_apart(kept, &marks) {
