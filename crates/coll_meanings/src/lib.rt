@@ -6,11 +6,13 @@
 //! by tests alone. A way through the crate:
 //!
 //! - `source_statements`: what is made of the lines of a source, with its place (`LeftOut`);
-//! - `meanings`, with `table_meanings`: what each name of a source means, and what is declared, over a table that is tailored or over none;
+//! - `declared_names`: what each name of a source means, and what is declared; `meanings`, over no table, and `table_meanings`, over one
+//!   that is tailored;
 //! - `ellipses`, with `order_lines`: the characters between two order lines;
 //! - `weights`: weights by what is placed.
 #![tactic(auto)]
 
+mod declared_names;
 mod ellipses;
 mod meanings;
 mod order_lines;

@@ -1,10 +1,10 @@
 //! What each name of a source means, and what is declared, where no table is asked.
 //!
-//! These are the meanings over a table (`table_meanings`) without one. What a table declares may be copied into them; then they outlive
-//! it.
+//! The rules are those of `declared_names`. What a table declares may be copied into them. They hold no table, so they outlive it, and
+//! may go to another thread.
 
 use crate::SourceStatement;
-use crate::table_meanings::TableMeanings;
+use crate::declared_names::DeclaredNames;
 use coll_lookups::HashKeys;
 use coll_sources::{Report, SourceFault, SourceLine, SourcePlace};
 use coll_syntax::{Id, OrderLine};
@@ -14,14 +14,14 @@ use std::alloc::{AllocError, Global};
 /// All names that are declared.
 #[derive(Drop)]
 pub struct Meanings {
-    names: TableMeanings<'static>,
+    names: DeclaredNames,
 }
 
 impl Meanings {
     /// Nothing is declared yet.
     pub fn new(alloc: Global, keys: HashKeys) -> Meanings {
         Meanings {
-            names: TableMeanings::over(alloc, keys, None),
+            names: DeclaredNames::new(alloc, keys),
         }
     }
 
@@ -34,24 +34,24 @@ impl Meanings {
         Ok(meanings)
     }
 
-    /// The same, as meanings over a table that isn't there.
-    pub(crate) fn names(&self) -> &TableMeanings<'static> {
+    /// What is known of names.
+    pub(crate) fn names(&self) -> &DeclaredNames {
         &self.names
     }
 
     /// Whether an identifier is a symbol's.
     pub fn is_symbol(&self, id: &Id) -> bool {
-        self.names.is_symbol(id)
+        self.names.is_symbol(None, id)
     }
 
     /// What an identifier stands for: itself, or what its name means.
     pub fn resolved(&self, id: Id) -> Result<Id, AllocError> {
-        self.names.resolved(id)
+        self.names.resolved(None, id)
     }
 
     /// An order line, whose identifier is what it stands for.
     pub fn meant(&self, line: OrderLine) -> Result<OrderLine, AllocError> {
-        self.names.meant(line)
+        self.names.meant(None, line)
     }
 
     /// Takes the declarations of the source out, in their order.
@@ -65,7 +65,7 @@ impl Meanings {
         lines: &[SourceLine],
         report: &mut Report,
     ) -> Result<(), SourceFault> {
-        self.names.take_all(lines, report)
+        self.names.take_all(None, lines, report)
     }
 
     /// Declares what has an order line and isn't declared, as a symbol.
@@ -75,6 +75,6 @@ impl Meanings {
         id: &Id,
         report: &mut Report,
     ) -> Result<(), SourceFault> {
-        self.names.declare_placed(place, id, report)
+        self.names.declare_placed(None, place, id, report)
     }
 }

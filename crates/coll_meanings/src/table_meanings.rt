@@ -1,222 +1,64 @@
-//! What each name of a source means, and what is declared, over a table that it tailors or over none.
+//! What each name of a source means, and what is declared, over a table that it tailors.
 //!
-//! A name means a symbol, an element, or something else under another name: a character, where the string of its element has that
-//! one alone; another element, where that has its string; or a symbol, where it is a second name. The first declaration of a name
-//! stands. Where a source tailors a table, the names of that table mean what they do there, and a declaration that the table has as
-//! well is left out.
-//!
-//! What the table declares is not copied: it is asked name by name, and only what lines of the source declare is kept, of a name that
-//! the table has too from its first such line on. So a source of a few lines costs what these lines take, however much the table has.
-//! The strings of its elements, which it can't be asked for, are kept where the source declares an element.
+//! The rules are those of `declared_names`; here stands the table that is asked.
 
 use crate::SourceStatement;
-use coll_lex::{TextBuf, is_name};
-use coll_lookups::{HashKeys, WordKeys};
-use coll_nodes::{DeclaredItem, MOST_DECLARATIONS};
-use coll_sources::{
-    Adjustment, Declaration, Lost, NameRange, Report, Said, SourceFault, SourceLine, SourcePlace,
-    name_at,
-};
-use coll_syntax::{Id, MOST_ELEMENT_CHARS, OrderLine, Statement};
+use crate::declared_names::DeclaredNames;
+use coll_lookups::HashKeys;
+use coll_sources::{Report, SourceFault, SourceLine, SourcePlace};
+use coll_syntax::{Id, OrderLine};
 use coll_table::Table;
-use coll_texts::LoadCause;
-use indexmap::IndexMap;
 use std::alloc::{AllocError, Global};
-
-// What a name means.
-#[derive(Drop)]
-enum Meaning {
-    // A collating symbol.
-    Symbol,
-    // A collating element.
-    Element,
-    // Something else: a character, another element, or the symbol of a second name.
-    Other(Id),
-}
-
-// What is known of a name.
-#[derive(Drop)]
-struct Known {
-    meaning: Meaning,
-    // Whether the table that is tailored declares it, and no line of the source has done so yet.
-    by_table: bool,
-}
-
-// What has declared a name.
-#[derive(Clone, Copy)]
-struct Taken {
-    // Whether the table that is tailored has, and no line of the source.
-    by_table: bool,
-    // Whether it is a symbol.
-    is_symbol: bool,
-}
-
-// When a declaration is like the one that has declared its name before.
-#[derive(Clone, Copy)]
-enum Alike {
-    // Where that is a symbol's.
-    IfSymbol,
-    // That is known.
-    Known(bool),
-}
-
-impl Alike {
-    // Whether it is like the one that has declared its name.
-    fn is_told_by(self, taken: Taken) -> bool {
-        match self {
-            Alike::IfSymbol => taken.is_symbol,
-            Alike::Known(alike) => alike,
-        }
-    }
-}
 
 /// All names that are declared, over a table that is tailored.
 #[derive(Drop)]
 pub struct TableMeanings<'t> {
-    // The table, if there is one that is asked.
-    table: Option<&'t Table>,
-    // What is known here; of a name that isn't, the table is asked.
-    names: IndexMap<String, Known, WordKeys>,
-    // The name of the element of each string.
-    strings: IndexMap<String, TextBuf, WordKeys>,
-    // Whether the strings of the table are still to be kept.
-    wants_strings: bool,
-    declared: Vec<SourceStatement>,
-    alloc: Global,
+    table: &'t Table,
+    names: DeclaredNames,
 }
 
 impl<'t> TableMeanings<'t> {
     /// What is declared is what this table declares.
     pub fn new(alloc: Global, keys: HashKeys, table: &'t Table) -> TableMeanings<'t> {
-        TableMeanings::over(alloc, keys, Some(table))
-    }
-
-    /// What is declared is what a table declares, if there is one.
-    pub(crate) fn over(
-        alloc: Global,
-        keys: HashKeys,
-        table: Option<&'t Table>,
-    ) -> TableMeanings<'t> {
         TableMeanings {
             table,
-            names: IndexMap::with_hasher(alloc, WordKeys::new(keys)),
-            strings: IndexMap::with_hasher(alloc, WordKeys::new(keys)),
-            wants_strings: table.is_some(),
-            declared: Vec::new(alloc),
-            alloc,
+            names: DeclaredNames::new(alloc, keys),
         }
     }
 
-    /// Knows a declaration of a table that is tailored and isn't asked.
-    pub(crate) fn know(&mut self, item: DeclaredItem<'_>) -> Result<(), AllocError> {
-        match item {
-            DeclaredItem::Symbol(name) => self.mean(name, Meaning::Symbol, true),
-            DeclaredItem::Element(name, text) => {
-                self.know_string(name, text)?;
-                self.mean(name, Meaning::Element, true)
-            }
-            DeclaredItem::Equivalence(name, symbol) => {
-                let own = TextBuf::copied(self.alloc, symbol)?;
-                self.mean(name, Meaning::Other(Id::Named(own)), true)
-            }
-        }
+    /// The table that is asked.
+    pub(crate) fn table(&self) -> &'t Table {
+        self.table
+    }
+
+    /// What is known of names, but for what the table is asked.
+    pub(crate) fn names(&self) -> &DeclaredNames {
+        &self.names
     }
 
     /// Whether an identifier is a symbol's.
     pub fn is_symbol(&self, id: &Id) -> bool {
-        match id {
-            Id::Named(name) => match self.names.get(name.get()) {
-                Some(known) => matches!(known.meaning, Meaning::Symbol),
-                None => self.table.is_some_and(|table| table.is_symbol(id)),
-            },
-            Id::Char(_) | Id::Undefined => false,
-        }
+        self.names.is_symbol(Some(self.table), id)
     }
 
     /// Whether the table places an identifier.
     pub fn table_places(&self, id: &Id) -> bool {
-        match self.table {
-            Some(table) => table.entry(id).is_some(),
-            None => false,
-        }
+        self.table.entry(id).is_some()
     }
 
     /// What an identifier stands for: itself, or what its name means.
     pub fn resolved(&self, id: Id) -> Result<Id, AllocError> {
-        match self.other(&id) {
-            Ok(Some(other)) => {
-                drop(id);
-                Ok(other)
-            }
-            Ok(None) => Ok(id),
-            Err(error) => {
-                drop(id);
-                Err(error)
-            }
-        }
+        self.names.resolved(Some(self.table), id)
     }
 
     /// An order line, whose identifier is what it stands for.
     pub fn meant(&self, line: OrderLine) -> Result<OrderLine, AllocError> {
-        let OrderLine { id, weights } = line;
-        match self.resolved(id) {
-            Ok(id) => Ok(OrderLine { id, weights }),
-            Err(error) => {
-                drop(weights);
-                Err(error)
-            }
-        }
-    }
-
-    /// Whether an identifier stands for itself.
-    pub(crate) fn stands_for_itself(&self, id: &Id) -> bool {
-        let Id::Named(name) = id else {
-            return true;
-        };
-        match self.names.get(name.get()) {
-            Some(known) => !matches!(known.meaning, Meaning::Other(_)),
-            None => self.own_of_second(name.get()).is_none(),
-        }
-    }
-
-    // What an identifier stands for, in new memory, where that is something else.
-    fn other(&self, id: &Id) -> Result<Option<Id>, AllocError> {
-        let Id::Named(name) = id else {
-            return Ok(None);
-        };
-        match self.names.get(name.get()) {
-            Some(known) => copied_other(&known.meaning),
-            None => self.own_id_of_second(name.get()),
-        }
-    }
-
-    // The symbol of a second name that the table alone declares, in new memory.
-    fn own_id_of_second(&self, name: &str) -> Result<Option<Id>, AllocError> {
-        match self.own_of_second(name) {
-            Some(own) => Ok(Some(Id::Named(TextBuf::copied(self.alloc, own)?))),
-            None => Ok(None),
-        }
-    }
-
-    // The name of the symbol of a second name of the table.
-    fn own_of_second(&self, name: &str) -> Option<&str> {
-        match self.own_name(name) {
-            Some(own) if own != name => Some(own),
-            _ => None,
-        }
-    }
-
-    // The own name of a name that the table declares.
-    fn own_name(&self, name: &str) -> Option<&str> {
-        match self.table {
-            Some(table) => table.resolve(name),
-            None => None,
-        }
+        self.names.meant(Some(self.table), line)
     }
 
     /// Takes the declarations of the source out, in their order.
     pub fn take_declared(&mut self) -> Vec<SourceStatement> {
-        std::mem::replace(&mut self.declared, Vec::new(self.alloc))
+        self.names.take_declared()
     }
 
     /// Takes what these lines declare.
@@ -225,24 +67,7 @@ impl<'t> TableMeanings<'t> {
         lines: &[SourceLine],
         report: &mut Report,
     ) -> Result<(), SourceFault> {
-        for line in lines {
-            self.take(line, report)?;
-        }
-        Ok(())
-    }
-
-    // Takes what a line declares.
-    fn take(&mut self, line: &SourceLine, report: &mut Report) -> Result<(), SourceFault> {
-        let place = line.place;
-        let Said::Declares(declaration) = &line.said else {
-            return Ok(());
-        };
-        match declaration {
-            Declaration::Symbol(name) => self.symbol(place, name, report),
-            Declaration::Symbols(range) => self.symbols(place, range, report),
-            Declaration::Element { name, text } => self.element(place, name, text, report),
-            Declaration::Equivalence { name, symbol } => self.second(place, name, symbol, report),
-        }
+        self.names.take_all(Some(self.table), lines, report)
     }
 
     /// Declares what has an order line and isn't declared, as a symbol.
@@ -252,418 +77,7 @@ impl<'t> TableMeanings<'t> {
         id: &Id,
         report: &mut Report,
     ) -> Result<(), SourceFault> {
-        let Id::Named(name) = id else {
-            return Ok(());
-        };
-        if self.is_declared(name.get()) {
-            return Ok(());
-        }
-        report.count(Adjustment::UndeclaredDeclared, place)?;
-        self.symbol(place, name, report)
-    }
-
-    // Whether a name is declared.
-    fn is_declared(&self, name: &str) -> bool {
-        self.names.contains_key(name) || self.own_name(name).is_some()
-    }
-
-    // Declares a symbol, unless its name is declared already.
-    fn symbol(
-        &mut self,
-        place: SourcePlace,
-        name: &TextBuf,
-        report: &mut Report,
-    ) -> Result<(), SourceFault> {
-        if self.is_taken(place, name, Alike::IfSymbol, report)? {
-            return Ok(());
-        }
-        let statement = Statement::Symbol(name.try_copy()?);
-        self.declare(place, name, Meaning::Symbol, statement)
-    }
-
-    // Declares each symbol of a range.
-    fn symbols(
-        &mut self,
-        place: SourcePlace,
-        range: &NameRange,
-        report: &mut Report,
-    ) -> Result<(), SourceFault> {
-        report.count(Adjustment::SymbolRange, place)?;
-        for number in range.first..=range.last {
-            let name = name_at(self.alloc, range, number)?;
-            self.symbol(place, &name, report)?;
-        }
-        Ok(())
-    }
-
-    // Declares an element, or makes its name stand for something that is there.
-    fn element(
-        &mut self,
-        place: SourcePlace,
-        name: &TextBuf,
-        text: &TextBuf,
-        report: &mut Report,
-    ) -> Result<(), SourceFault> {
-        self.know_strings()?;
-        let alike = Alike::Known(self.has_string(name, text));
-        if self.is_taken(place, name, alike, report)? {
-            return Ok(());
-        }
-        if text.get().chars().count() > MOST_ELEMENT_CHARS {
-            return lose(report, Adjustment::Dropped, place, name);
-        }
-        match only_char(text.get()) {
-            Some(c) => self.stand_for(place, name, Id::Char(c), Adjustment::ElementOfOne, report),
-            None => self.longer_element(place, name, text, report),
-        }
-    }
-
-    // Declares an element of more than one character, or makes its name stand for the element that has its string.
-    fn longer_element(
-        &mut self,
-        place: SourcePlace,
-        name: &TextBuf,
-        text: &TextBuf,
-        report: &mut Report,
-    ) -> Result<(), SourceFault> {
-        match self.with_string(text)? {
-            Some(other) => {
-                self.stand_for(place, name, other, Adjustment::ElementStringTwice, report)
-            }
-            None => self.declare_element(place, name, text),
-        }
-    }
-
-    // Makes a name stand for something that is there.
-    fn stand_for(
-        &mut self,
-        place: SourcePlace,
-        name: &TextBuf,
-        other: Id,
-        adjustment: Adjustment,
-        report: &mut Report,
-    ) -> Result<(), SourceFault> {
-        match report.count(adjustment, place) {
-            Ok(()) => Ok(self.mean(name.get(), Meaning::Other(other), false)?),
-            Err(error) => {
-                drop(other);
-                Err(SourceFault::from(error))
-            }
-        }
-    }
-
-    // The element that has a string, if one does.
-    fn with_string(&self, text: &TextBuf) -> Result<Option<Id>, AllocError> {
-        match self.strings.get(text.get()) {
-            Some(name) => Ok(Some(Id::Named(name.try_copy()?))),
-            None => Ok(None),
-        }
-    }
-
-    // Declares an element whose string no other one has.
-    fn declare_element(
-        &mut self,
-        place: SourcePlace,
-        name: &TextBuf,
-        text: &TextBuf,
-    ) -> Result<(), SourceFault> {
-        self.know_string(name.get(), text.get())?;
-        let statement = Statement::Element {
-            name: name.try_copy()?,
-            text: text.try_copy()?,
-        };
-        self.declare(place, name, Meaning::Element, statement)
-    }
-
-    // Keeps the strings of the elements of the table, once.
-    fn know_strings(&mut self) -> Result<(), AllocError> {
-        if !self.wants_strings {
-            return Ok(());
-        }
-        self.wants_strings = false;
-        match self.table {
-            Some(table) => self.know_all_strings(table),
-            None => Ok(()),
-        }
-    }
-
-    // Keeps the strings of the elements of a table.
-    fn know_all_strings(&mut self, table: &Table) -> Result<(), AllocError> {
-        for item in table.declared() {
-            if let DeclaredItem::Element(name, text) = item {
-                self.know_string(name, text)?;
-            }
-        }
-        Ok(())
-    }
-
-    // Keeps the string of an element.
-    fn know_string(&mut self, name: &str, text: &str) -> Result<(), AllocError> {
-        let text = String::from_str(self.alloc, text)?;
-        let owner = TextBuf::copied(self.alloc, name)?;
-        drop(self.strings.insert(text, owner)?);
-        Ok(())
-    }
-
-    // Declares a second name of a symbol.
-    fn second(
-        &mut self,
-        place: SourcePlace,
-        name: &TextBuf,
-        symbol: &TextBuf,
-        report: &mut Report,
-    ) -> Result<(), SourceFault> {
-        let Some(own) = self.own_symbol(symbol)? else {
-            return lose(report, Adjustment::Dropped, place, name);
-        };
-        let alike = Alike::Known(self.is_second_of(name, &own));
-        match self.is_taken(place, name, alike, report) {
-            Ok(false) => self.declare_second(place, name, own),
-            Ok(true) => {
-                drop(own);
-                Ok(())
-            }
-            Err(fault) => {
-                drop(own);
-                Err(fault)
-            }
-        }
-    }
-
-    // Declares a second name of the symbol of this own name.
-    fn declare_second(
-        &mut self,
-        place: SourcePlace,
-        name: &TextBuf,
-        own: TextBuf,
-    ) -> Result<(), SourceFault> {
-        match second_name(name, &own) {
-            Ok(statement) => {
-                self.declare(place, name, Meaning::Other(Id::Named(own)), statement)
-            }
-            Err(error) => {
-                drop(own);
-                Err(SourceFault::from(error))
-            }
-        }
-    }
-
-    // The own name of a symbol, if it is one.
-    fn own_symbol(&self, symbol: &TextBuf) -> Result<Option<TextBuf>, AllocError> {
-        if self.means_symbol(symbol)? {
-            return Ok(Some(symbol.try_copy()?));
-        }
-        match self.other_name(symbol) {
-            Some(own) => self.if_symbol(TextBuf::copied(self.alloc, own)?),
-            None => Ok(None),
-        }
-    }
-
-    // A name, if it means a symbol.
-    fn if_symbol(&self, name: TextBuf) -> Result<Option<TextBuf>, AllocError> {
-        match self.means_symbol(&name) {
-            Ok(true) => Ok(Some(name)),
-            Ok(false) => {
-                drop(name);
-                Ok(None)
-            }
-            Err(error) => {
-                drop(name);
-                Err(error)
-            }
-        }
-    }
-
-    // Whether a name means a symbol.
-    fn means_symbol(&self, name: &TextBuf) -> Result<bool, AllocError> {
-        match self.names.get(name.get()) {
-            Some(known) => Ok(matches!(known.meaning, Meaning::Symbol)),
-            None => self.is_symbol_of_table(name),
-        }
-    }
-
-    // Whether a name is that of a symbol of the table.
-    fn is_symbol_of_table(&self, name: &TextBuf) -> Result<bool, AllocError> {
-        let Some(table) = self.table else {
-            return Ok(false);
-        };
-        let id = Id::Named(name.try_copy()?);
-        let is_symbol = table.is_symbol(&id);
-        drop(id);
-        Ok(is_symbol)
-    }
-
-    // The name that a name stands for, if it stands for one.
-    fn other_name(&self, name: &TextBuf) -> Option<&str> {
-        match self.names.get(name.get()) {
-            Some(known) => name_meant(&known.meaning),
-            None => self.own_of_second(name.get()),
-        }
-    }
-
-    // Whether the element of this name has this string.
-    fn has_string(&self, name: &TextBuf, text: &TextBuf) -> bool {
-        match self.strings.get(text.get()) {
-            Some(owner) => owner.get() == name.get(),
-            None => false,
-        }
-    }
-
-    // Whether this is a second name of a symbol.
-    fn is_second_of(&self, name: &TextBuf, own: &TextBuf) -> bool {
-        match self.other_name(name) {
-            Some(other) => other == own.get(),
-            None => false,
-        }
-    }
-
-    // Whether a name can't be declared, since it is, or since it is no name. This is told, but where only the table that is tailored
-    // declares it, and alike.
-    fn is_taken(
-        &mut self,
-        place: SourcePlace,
-        name: &TextBuf,
-        alike: Alike,
-        report: &mut Report,
-    ) -> Result<bool, SourceFault> {
-        if !is_name(name.get()) {
-            lose(report, Adjustment::Dropped, place, name)?;
-            return Ok(true);
-        }
-        let Some(taken) = self.taken_by(name)? else {
-            return Ok(false);
-        };
-        if taken.by_table && alike.is_told_by(taken) {
-            report.count(Adjustment::DeclaredAlready, place)?;
-        } else if taken.by_table {
-            lose(report, Adjustment::DeclaredAlready, place, name)?;
-        } else {
-            lose(report, Adjustment::Dropped, place, name)?;
-        }
-        Ok(true)
-    }
-
-    // What has declared a name, if anything has. From now on a line of the source has.
-    fn taken_by(&mut self, name: &TextBuf) -> Result<Option<Taken>, AllocError> {
-        if let Some(known) = self.names.get_mut(name.get()) {
-            let taken = Taken {
-                by_table: known.by_table,
-                is_symbol: matches!(known.meaning, Meaning::Symbol),
-            };
-            known.by_table = false;
-            return Ok(Some(taken));
-        }
-        match self.meant_by_table(name)? {
-            Some(meaning) => {
-                let is_symbol = matches!(meaning, Meaning::Symbol);
-                self.mean(name.get(), meaning, false)?;
-                Ok(Some(Taken {
-                    by_table: true,
-                    is_symbol,
-                }))
-            }
-            None => Ok(None),
-        }
-    }
-
-    // What a name means in the table, if it is declared there.
-    fn meant_by_table(&self, name: &TextBuf) -> Result<Option<Meaning>, AllocError> {
-        if self.own_name(name.get()).is_none() {
-            return Ok(None);
-        }
-        match self.own_id_of_second(name.get())? {
-            Some(own) => Ok(Some(Meaning::Other(own))),
-            None => Ok(Some(self.own_meaning(name)?)),
-        }
-    }
-
-    // What an own name of the table means.
-    fn own_meaning(&self, name: &TextBuf) -> Result<Meaning, AllocError> {
-        if self.is_symbol_of_table(name)? {
-            Ok(Meaning::Symbol)
-        } else {
-            Ok(Meaning::Element)
-        }
-    }
-
-    // Puts a declaration behind all others.
-    fn declare(
-        &mut self,
-        place: SourcePlace,
-        name: &TextBuf,
-        meaning: Meaning,
-        statement: Statement,
-    ) -> Result<(), SourceFault> {
-        if self.declared.len() >= MOST_DECLARATIONS {
-            drop(meaning);
-            drop(statement);
-            return Err(place.load_fault(LoadCause::Full));
-        }
-        match self.mean(name.get(), meaning, false) {
-            Ok(()) => Ok(self.declared.push(SourceStatement { place, statement })?),
-            Err(error) => {
-                drop(statement);
-                Err(SourceFault::from(error))
-            }
-        }
-    }
-
-    // Gives a name its meaning.
-    fn mean(&mut self, name: &str, meaning: Meaning, by_table: bool) -> Result<(), AllocError> {
-        match String::from_str(self.alloc, name) {
-            Ok(name) => {
-                drop(self.names.insert(name, Known { meaning, by_table })?);
-                Ok(())
-            }
-            Err(error) => {
-                drop(meaning);
-                Err(error)
-            }
-        }
-    }
-}
-
-// What a meaning stands for, in new memory, where that is something else.
-fn copied_other(meaning: &Meaning) -> Result<Option<Id>, AllocError> {
-    match meaning {
-        Meaning::Other(other) => Ok(Some(other.clone()?)),
-        Meaning::Symbol | Meaning::Element => Ok(None),
-    }
-}
-
-// The name that a meaning stands for, if it stands for one.
-fn name_meant(meaning: &Meaning) -> Option<&str> {
-    match meaning {
-        Meaning::Other(Id::Named(other)) => Some(other.get()),
-        _ => None,
-    }
-}
-
-// The statement that declares a second name of a symbol.
-fn second_name(name: &TextBuf, symbol: &TextBuf) -> Result<Statement, AllocError> {
-    Ok(Statement::Equivalence {
-        name: name.try_copy()?,
-        symbol: symbol.try_copy()?,
-    })
-}
-
-// Tells that a declaration is left out.
-fn lose(
-    report: &mut Report,
-    adjustment: Adjustment,
-    place: SourcePlace,
-    name: &TextBuf,
-) -> Result<(), SourceFault> {
-    let what = Lost::Id(Id::Named(name.try_copy()?));
-    report.lose(adjustment, place, what)
-}
-
-// The character of a text that has no other.
-fn only_char(text: &str) -> Option<char> {
-    let mut letters = text.chars();
-    let first = letters.next()?;
-    match letters.next() {
-        Some(_) => None,
-        None => Some(first),
+        self.names
+            .declare_placed(Some(self.table), place, id, report)
     }
 }

@@ -1,11 +1,16 @@
 //! The weights of an entry, by what is placed and by own names.
+//!
+//! Weights over a table that is tailored and those over none go by the same rules (`LookUp`); what is handed out for those over none
+//! holds nothing of a table.
 
+use crate::declared_names::DeclaredNames;
 use crate::meanings::Meanings;
 use crate::table_meanings::TableMeanings;
 use coll_lex::ListBuf;
 use coll_lookups::IdSet;
 use coll_sources::{Adjustment, Lost, Report, SourceFault, SourcePlace};
 use coll_syntax::{Id, OrderLine, Weight};
+use coll_table::Table;
 use std::alloc::Global;
 
 /// What weights are looked up in.
@@ -29,18 +34,19 @@ impl WeightLookUp<'_> {
         line: OrderLine,
         report: &mut Report,
     ) -> Result<OrderLine, SourceFault> {
-        self.without_table().line(place, line, report)
+        self.look_up().line(place, line, report)
     }
 
     /// Whether all that weights name is placed, and stands for nothing else.
     pub fn all_stay(&self, weights: &[Weight]) -> bool {
-        self.without_table().all_stay(weights)
+        self.look_up().all_stay(weights)
     }
 
-    // The same, over a table that isn't there.
-    fn without_table(&self) -> TableLookUp<'_, 'static> {
-        TableLookUp {
-            meanings: self.meanings.names(),
+    // The same, over no table.
+    fn look_up(&self) -> LookUp<'_> {
+        LookUp {
+            names: self.meanings.names(),
+            table: None,
             placed: self.placed,
             levels: self.levels,
             alloc: self.alloc,
@@ -69,6 +75,50 @@ impl TableLookUp<'_, '_> {
         line: OrderLine,
         report: &mut Report,
     ) -> Result<OrderLine, SourceFault> {
+        self.look_up().line(place, line, report)
+    }
+
+    /// Whether an identifier is placed.
+    pub fn is_placed(&self, id: &Id) -> bool {
+        self.look_up().is_placed(id)
+    }
+
+    /// Whether all that weights name is placed, and stands for nothing else.
+    pub fn all_stay(&self, weights: &[Weight]) -> bool {
+        self.look_up().all_stay(weights)
+    }
+
+    // The same, over the table.
+    fn look_up(&self) -> LookUp<'_> {
+        LookUp {
+            names: self.meanings.names(),
+            table: Some(self.meanings.table()),
+            placed: self.placed,
+            levels: self.levels,
+            alloc: self.alloc,
+        }
+    }
+}
+
+// What weights are looked up in, over a table or over none.
+#[derive(Clone, Copy)]
+struct LookUp<'a> {
+    names: &'a DeclaredNames,
+    table: Option<&'a Table>,
+    // What is placed beside what the table places.
+    placed: &'a IdSet,
+    levels: usize,
+    alloc: Global,
+}
+
+impl LookUp<'_> {
+    // An order line whose weights name what is placed, and no more than there are levels.
+    fn line(
+        &self,
+        place: SourcePlace,
+        line: OrderLine,
+        report: &mut Report,
+    ) -> Result<OrderLine, SourceFault> {
         let OrderLine { id, weights } = line;
         match weights {
             Some(weights) => self.with_weights(place, id, weights.into_items(), report),
@@ -76,9 +126,17 @@ impl TableLookUp<'_, '_> {
         }
     }
 
-    /// Whether an identifier is placed.
-    pub fn is_placed(&self, id: &Id) -> bool {
-        self.placed.contains(id) || self.meanings.table_places(id)
+    // Whether an identifier is placed.
+    fn is_placed(&self, id: &Id) -> bool {
+        self.placed.contains(id) || self.is_in_table(id)
+    }
+
+    // Whether the table places an identifier.
+    fn is_in_table(&self, id: &Id) -> bool {
+        match self.table {
+            Some(table) => table.entry(id).is_some(),
+            None => false,
+        }
     }
 
     // An order line with these weights, which name what is placed then, and are no more than there are levels.
@@ -120,8 +178,8 @@ impl TableLookUp<'_, '_> {
         Ok(())
     }
 
-    /// Whether all that weights name is placed, and stands for nothing else.
-    pub fn all_stay(&self, weights: &[Weight]) -> bool {
+    // Whether all that weights name is placed, and stands for nothing else.
+    fn all_stay(&self, weights: &[Weight]) -> bool {
         weights.iter().all(|weight| self.all_named_stay(weight))
     }
 
@@ -153,7 +211,7 @@ impl TableLookUp<'_, '_> {
 
     // Whether an identifier stays as it is: it is placed, and stands for nothing else.
     fn stays(&self, id: &Id) -> bool {
-        self.is_placed(id) && self.meanings.stands_for_itself(id)
+        self.is_placed(id) && self.names.stands_for_itself(self.table, id)
     }
 
     // The weight of these identifiers by what they stand for, without those that are placed nowhere; of none it ignores the entry.
@@ -165,7 +223,7 @@ impl TableLookUp<'_, '_> {
     ) -> Result<Weight, SourceFault> {
         let mut kept = Vec::new(self.alloc);
         for id in ids {
-            let id = self.meanings.resolved(id.clone()?)?;
+            let id = self.names.resolved(self.table, id.clone()?)?;
             if self.is_placed(&id) {
                 kept.push(id)?;
             } else {
@@ -186,7 +244,10 @@ pub fn without_symbol_weights(
     line: OrderLine,
     report: &mut Report,
 ) -> Result<OrderLine, SourceFault> {
-    without_weights_of_symbol(meanings.names(), place, line, report)
+    if line.weights.is_none() || !meanings.is_symbol(&line.id) {
+        return Ok(line);
+    }
+    without_weights(place, line, report)
 }
 
 /// The same, where a table is tailored.
@@ -199,6 +260,15 @@ pub fn without_weights_of_symbol(
     if line.weights.is_none() || !meanings.is_symbol(&line.id) {
         return Ok(line);
     }
+    without_weights(place, line, report)
+}
+
+// An order line without its weights, which is told.
+fn without_weights(
+    place: SourcePlace,
+    line: OrderLine,
+    report: &mut Report,
+) -> Result<OrderLine, SourceFault> {
     let OrderLine { id, weights } = line;
     drop(weights);
     match lose_weights(place, &id, report) {
