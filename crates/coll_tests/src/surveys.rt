@@ -1,0 +1,216 @@
+//! Tests of `coll_surveys`: the survey of a table without fault tells what the survey of any table tells of it.
+//!
+//! The one passes over most order lines unread, and the other reads all. Many texts are made of the same pieces, and those that a load
+//! accepts are surveyed both ways.
+
+use crate::assertions::{assert_same, assert_that};
+use crate::tables::examples::loaded;
+use coll_surveys::{Told, WarnedLine, Warning, survey_accepted, survey_table};
+use coll_syntax::Id;
+use coll_table::{HashKeys, Table};
+use std::alloc::{AllocError, Global};
+use std::process::Abort;
+
+// How a text is written.
+#[derive(Clone, Copy)]
+struct Form {
+    // Its directives.
+    head: &'static str,
+    // The escape character, which is `@` in a piece.
+    escape: u8,
+    // The comment character, which is `%` in a piece.
+    comment: u8,
+    // What ends a line of a piece.
+    end: &'static str,
+}
+
+const FORMS: &[Form] = &[
+    Form {
+        head: "",
+        escape: b'\\',
+        comment: b'#',
+        end: "\n",
+    },
+    Form {
+        head: "comment_char %\nescape_char /\n",
+        escape: b'/',
+        comment: b'%',
+        end: "\r\n",
+    },
+    Form {
+        head: "escape_char %\ncomment_char \\\r\n",
+        escape: b'%',
+        comment: b'\\',
+        end: "\n",
+    },
+    Form {
+        head: "escape_char =\n",
+        escape: b'=',
+        comment: b'#',
+        end: " \n",
+    },
+];
+
+// What stands before the order.
+const DECLARED: &[&str] = &[
+    "script @\n<S>\ncollating-symbol @\n<B>\n",
+    "script <S>\ncollating-symbol <B>\n",
+    "% <B> @\ncollating-element <E> from \"<U0061><U0062>\"\n@\ncollating-symbol <B>\n",
+];
+
+// What stands in the order.
+const ORDERED: &[&str] = &[
+    "",
+    "<A>\n",
+    " \t<A> \t\n",
+    "<A> % behind\n",
+    "<A> % behind @\n<B>\n",
+    "% <B>\n",
+    "% <B> @\n<B>\n",
+    "<B>\n",
+    "<B>@\n\n",
+    "@\n<B>\n",
+    "@\n\n<B>\n",
+    "<@B>\n",
+    "<B>% near\n",
+    "<U0061>\n",
+    "<U0061> <A>\n",
+    "<U0061> @\n<A>\n",
+    "<U0061> <U0061>@@\n",
+    "<U0061> \"<A>@\n<U0061>\"\n",
+    "<U0062> IGNORE@\n\n",
+    "<E> <U0061>\n",
+    "\n",
+    "UNDEFINED\n",
+    "a <A>\n",
+    "order_end\norder_start forward\n",
+];
+
+// What stands behind that in the order.
+const BEHIND: &[&str] = &["", "<B>\n", "@\n<B>\n", "script <T>\n"];
+
+// What ends a text, with what is not looked at.
+const END: &str = "order_end\nEND LC_COLLATE\n<B> @\nscript <S>\n";
+
+// The text of these pieces.
+fn text_of(alloc: Global, form: Form, pieces: &[&str]) -> Result<Vec<u8>, AllocError> {
+    let mut text = Vec::new(alloc);
+    text.extend_from_slice(form.head.as_bytes())?;
+    for piece in pieces {
+        push_piece(&mut text, form, piece)?;
+    }
+    Ok(text)
+}
+
+// Puts a piece behind a text.
+fn push_piece(text: &mut Vec<u8>, form: Form, piece: &str) -> Result<(), AllocError> {
+    for byte in piece.as_bytes() {
+        match *byte {
+            b'@' => text.push(form.escape)?,
+            b'%' => text.push(form.comment)?,
+            b'\n' => text.extend_from_slice(form.end.as_bytes())?,
+            other => text.push(other)?,
+        }
+    }
+    Ok(())
+}
+
+// What a warning says: its kind, and the name that it is about.
+fn said(warning: &Warning) -> (&'static str, &str) {
+    match warning {
+        Warning::ScriptWithoutEffect => ("script", ""),
+        Warning::NeverPlaced(Id::Named(name)) => ("never placed", name.get()),
+        _ => ("another", ""),
+    }
+}
+
+fn assert_warning(rt: &impl Abort, given: &WarnedLine, wanted: &WarnedLine) {
+    assert_same(rt, "the input", given.input, wanted.input);
+    assert_same(rt, "the line", given.line, wanted.line);
+    let (kind, name) = said(&given.warning);
+    let (wanted_kind, wanted_name) = said(&wanted.warning);
+    assert_same(rt, "the kind", kind, wanted_kind);
+    assert_same(rt, "the name", name, wanted_name);
+}
+
+fn assert_told(rt: &impl Abort, given: &Told, wanted: &Told) {
+    assert_same(rt, "faults", given.faults.len(), 0);
+    assert_same(rt, "faults of any table", wanted.faults.len(), 0);
+    assert_same(rt, "warnings", given.warnings.len(), wanted.warnings.len());
+    assert_that(rt, "no more", given.more_warnings.is_none());
+    for (one, other) in given.warnings.iter().zip(wanted.warnings.iter()) {
+        assert_warning(rt, one, other);
+    }
+}
+
+// Asserts that both surveys of a text tell the same, which gives this table. The answer is how many warnings.
+fn assert_alike(rt: &impl Abort, alloc: Global, text: &[u8], table: Table) -> usize {
+    let keys = HashKeys::zeros();
+    let given = survey_accepted(alloc, keys, text, table).expect(rt, "a survey");
+    let wanted = survey_table(alloc, keys, text).expect(rt, "a survey of any table");
+    assert_told(rt, &given.told, &wanted.told);
+    let warned = given.told.warnings.len();
+    drop(given);
+    drop(wanted);
+    warned
+}
+
+// Asserts this of a text, if a load accepts it. The answer is how many warnings.
+fn assert_if_accepted(rt: &impl Abort, alloc: Global, form: Form, pieces: &[&str]) -> usize {
+    let text = text_of(alloc, form, pieces).expect(rt, "a text");
+    let warned = match loaded(alloc, &text) {
+        Ok(table) => assert_alike(rt, alloc, &text, table),
+        Err(_) => 0,
+    };
+    drop(text);
+    warned
+}
+
+// The same of all texts with these declarations and this piece of the order.
+fn assert_all_behind(
+    rt: &impl Abort,
+    alloc: Global,
+    form: Form,
+    declared: &str,
+    ordered: &str,
+) -> usize {
+    let begin = "LC_COLLATE\ncollating-symbol <A>\n";
+    let mut warned: usize = 0;
+    for behind in BEHIND {
+        let pieces = [
+            begin,
+            declared,
+            "order_start forward\n",
+            ordered,
+            behind,
+            END,
+        ];
+        warned = warned.saturating_add(assert_if_accepted(rt, alloc, form, &pieces));
+    }
+    warned
+}
+
+// The same of all texts with these declarations.
+fn assert_all_ordered(rt: &impl Abort, alloc: Global, form: Form, declared: &str) -> usize {
+    let mut warned: usize = 0;
+    for ordered in ORDERED {
+        warned = warned.saturating_add(assert_all_behind(rt, alloc, form, declared, ordered));
+    }
+    warned
+}
+
+// The same of all texts of a form, some of which have warnings.
+fn assert_form(rt: &impl Abort, alloc: Global, form: Form) {
+    let mut warned: usize = 0;
+    for declared in DECLARED {
+        warned = warned.saturating_add(assert_all_ordered(rt, alloc, form, declared));
+    }
+    assert_that(rt, form.end, warned > 10);
+}
+
+#[test]
+fn a_table_without_fault_is_surveyed_as_any_table(rt: HostRuntime) {
+    for form in FORMS {
+        assert_form(&rt, rt.alloc(), *form);
+    }
+}
