@@ -1,5 +1,9 @@
 -- Nodes by name: a name is found by its bytes.
-use Rattle.std.proofs.Common.{◌≡◌, ◌≤◌, ◌<◌, ℕ, Bool, true, false, cond, is_some, List, [], ◌∷◌, Option, None, sym, ap, ap₂, ◌∙◌, refl, length, arith}
+use Rattle.std.proofs.Common.{◌≡◌, ◌≤◌, ◌<◌, ℕ, Bool, true, false, cond, is_some, nat_lt, lt-ltb, List, [], ◌∷◌, Option, None, Some, sym, ap, ap₂, ◌∙◌, refl, length, position, slice_index_or, arith}
+use Rattle.std.proofs.lemmas.List.Sums.{position_or_len_is}
+use Rattle.std.proofs.lemmas.Map.Keys.{apart_from_distinct}
+use Rattle.std.specs.Cmp.Lexicographic.{nat_list_eq_equiv}
+use Rattle.std.specs.List.{position_or_len, IsDistinct}
 use Rattle.std.specs.Prelude.{chars, encode_utf8_all}
 use Rattle.std.specs.Str.{bytes_eq}
 use Rattle.std.specs.Map.{lookup, set_value}
@@ -33,6 +37,18 @@ module _ (name bytes : List ℕ) (spelled : encode_utf8_all name ≡ bytes) (rea
   pub set_name_leads : (es : List (NameKey × Option NodeId)) (node : Option NodeId) → AreKeys IsReadBack es → is_name_key (names_lead es) name ≡ true
       → SetsName (names_lead es) (names_lead (set_value (λ key. bytes_eq bytes (bytes_of key)) es node)) name node
   set_name_leads es node h there = set_leads same_name same_name_decides name_of_key IsReadBack (λ key. bytes_eq bytes (bytes_of key)) name tests_name es node h there
+
+-- a key that has these bytes stands at the first place at which one has them, since no two keys have the same
+pub guessed_place : (bytes : List ℕ) (ks : List NameKey) (place : ℕ) (key : NameKey) → IsDistinct same_bytes ks → place < length ks → key ≡ slice_index_or ks place key → bytes_eq bytes (bytes_of key) ≡ true
+    → Some place ≡ position (λ other. bytes_eq bytes (bytes_of other)) ks
+guessed_place bytes ks place key distinct within is same =
+    let before : (k : ℕ) → k < place → bytes_eq bytes (bytes_of (slice_index_or ks k key)) ≡ false = λ k less.
+    nat_list_eq_equiv.congr bytes (bytes_of key) (bytes_of (slice_index_or ks k key)) same
+    ∙ (nat_list_eq_equiv.symm (bytes_of key) (bytes_of (slice_index_or ks k key))
+    ∙ (ap (λ it. same_bytes (slice_index_or ks k key) it) is ∙ apart_from_distinct same_bytes ks k place key distinct less within)) in
+    let first : position_or_len (λ other. bytes_eq bytes (bytes_of other)) ks ≡ place = position_or_len_is (λ other. bytes_eq bytes (bytes_of other)) ks place key (omega (arith, within)) before
+    (λ _. ap (λ it. bytes_eq bytes (bytes_of it)) (sym is) ∙ same) in
+    sym (ap (λ n. cond (nat_lt n (length ks)) (Some n) None) first ∙ ap (λ b. cond b (Some place) None) (lt-ltb place (length ks) within))
 
 abbrev name_inserted : List (NameKey × Option NodeId) → NameKey → Option NodeId → List (NameKey × Option NodeId)
 name_inserted es key node = insert_entry same_bytes es key node

@@ -4,18 +4,19 @@
 //! later without taking memory. Copies share the names until one of them gets a further name. How a name is found, and in which
 //! order names are kept, may change.
 
-ghost use Rattle.std.specs.Prelude.{◌≡◌, ◌<◌, ℕ, List, [], true, not, Some, None, is_some, unwrap_or, chars, length, slice_index_or};
+ghost use Rattle.std.specs.Prelude.{◌≡◌, ◌<◌, ℕ, List, [], true, not, Some, None, is_some, unwrap_or, chars, length, position, slice_index_or};
 ghost use Rattle.std.specs.Prelude.{vec_len, vec_capacity, IfOk, OnOk, OnErr};
-ghost use Rattle.std.specs.List.{position_or_len};
+ghost use Rattle.std.specs.List.{list_any, position_or_len};
 ghost use Rattle.indexmap.specs.IndexSet.{insert_key};
-ghost use Rattle.coll_lookups.specs.NameKeys.{same_bytes};
+ghost use Rattle.std.specs.Str.{bytes_eq};
+ghost use Rattle.coll_lookups.specs.NameKeys.{bytes_of, same_bytes};
 ghost use Rattle.coll_lookups.specs.NodeMaps.{node_put};
 
 use crate::name_keys::{NameKey, NameText};
 use crate::{HashKeys, WordKeys};
 use coll_lex::TextBuf;
 use coll_order::NodeId;
-use indexmap::IndexSet;
+use indexmap::{Equivalent, IndexSet};
 use std::alloc::{AllocError, Global};
 use std::marker::Model;
 use std::rc::Rc;
@@ -86,6 +87,21 @@ impl NodeNames {
     {
         match self.names.get_index_of(NameText { text: name }) {
             Some(place) => self.nodes[place],
+            None => None,
+        }
+    }
+
+    /// The node that a name leads to, by its text, as `find_text` tells it. Names are often asked for in the order in which they came
+    /// in, so the name is looked for at a guess first, and there no hash is needed. The guess is then the place behind the name. It
+    /// takes no memory.
+    pub fn find_behind(&self, name: &str, guess: &mut usize) -> Option<NodeId>
+        ensures { result ≡ node_named self.now (chars name.now) }
+    {
+        match place_by_guess(&self.names, name, *guess) {
+            Some(place) => {
+                *guess = place.wrapping_add(1);
+                self.nodes[place]
+            }
             None => None,
         }
     }
@@ -176,6 +192,20 @@ impl NodeNames {
             None => Ok(true),
         }
     }
+}
+
+// The place of a name, which is looked for at a guess before it is looked up.
+fn place_by_guess(names: &IndexSet<NameKey, WordKeys>, name: &str, guess: usize) -> Option<usize>
+    ensures index { result ≡ position (λ key. bytes_eq name.now (bytes_of key)) names.now.keys }
+    ensures found { is_some result ≡ list_any (λ key. bytes_eq name.now (bytes_of key)) names.now.keys }
+{
+    let text = NameText { text: name };
+    if let Some(key) = names.as_slice().get(guess) {
+        if text.equivalent(key) {
+            return Some(guess);
+        }
+    }
+    names.get_index_of(text)
 }
 
 // Puts a name behind all others, if it isn't there yet. Answers its place. Names that are shared are copied for one that is new,

@@ -114,6 +114,17 @@ impl BodyBuilder {
         self.body.declaration(name.get())
     }
 
+    /// The declaration of a name, if it is declared. It is looked for at a guess first, which is then the name declared behind it.
+    pub(crate) fn declaration_behind(
+        &self,
+        name: &TextBuf,
+        guess: &mut usize,
+    ) -> Option<&Declaration>
+        ensures { option_copied result ≡ declaration_of self.now.declared name.now }
+    {
+        self.body.declaration_behind(name.get(), guess)
+    }
+
     /// The number of entries, in all sections together.
     pub(crate) fn len(&self) -> usize
         ensures { result ≡ length (joined_entries self.now.sections) }

@@ -49,6 +49,8 @@ pub struct TableBuilder {
     builder: BodyBuilder,
     // The number of the line of each entry, in order.
     numbers: Vec<u32>,
+    // Where the name of the next order line is looked for first: symbols are mostly placed in the order in which they were declared.
+    guess: usize,
     // Where the weights of an entry grow.
     alloc: Global,
 }
@@ -61,6 +63,7 @@ impl Drop for TableBuilder {
             rules,
             builder,
             numbers,
+            guess: _,
             alloc: _,
         } = self;
         drop(rules);
@@ -110,6 +113,7 @@ impl TableBuilder {
             rules: None,
             builder,
             numbers: Vec::new(alloc),
+            guess: 0,
             alloc,
         })
     }
@@ -152,6 +156,7 @@ impl TableBuilder {
             rules,
             builder,
             numbers,
+            guess: _,
             alloc: _,
         } = self;
         drop(numbers);
@@ -416,7 +421,26 @@ impl TableBuilder {
             ≡ with_entry self.old number (entry_of (levels_of self.old.rules) self.old.declared (own_order self.old.declared line))) }
         ensures err { IfErr result (λ cause. cause ≢ OutOfMemory → order_cause self.old (own_order self.old.declared line) ≡ Some cause) }
     {
-        let (line, symbol) = self.own_order(line)?;
+        let mut guess = self.guess;
+        let answer = self.place_behind(number, line, &mut guess);
+        self.guess = guess;
+        answer
+    }
+
+    // The same, with where its name is looked for first.
+    fn place_behind(
+        &mut self,
+        number: u32,
+        line: OrderLine,
+        guess: &mut usize,
+    ) -> Result<(), LoadCause>
+        requires { IsProperLine line }
+        ensures ok { OnOk result (order_cause self.old (own_order self.old.declared line) ≡ None) }
+        ensures after { OnOk result (self.new
+            ≡ with_entry self.old number (entry_of (levels_of self.old.rules) self.old.declared (own_order self.old.declared line))) }
+        ensures err { IfErr result (λ cause. cause ≢ OutOfMemory → order_cause self.old (own_order self.old.declared line) ≡ Some cause) }
+    {
+        let (line, symbol) = self.own_order(line, guess)?;
         if let Some(cause) = self.order_cause(&line, symbol) {
             return Err(cause);
         }
@@ -429,21 +453,25 @@ impl TableBuilder {
     }
 
     // An order line, with its identifier by its own name, and whether that is a symbol, if it may stand in a section: both by one
-    // look-up. Lack of memory is answered for a second name alone.
-    fn own_order(&self, line: OrderLine) -> Result<(OrderLine, Option<bool>), AllocError>
+    // look-up, at a guess first. Lack of memory is answered for a second name alone.
+    fn own_order(
+        &self,
+        line: OrderLine,
+        guess: &mut usize,
+    ) -> Result<(OrderLine, Option<bool>), AllocError>
         ensures own { IfOk result (λ own. own.0 ≡ own_order self.now.declared line) }
         ensures known { IfOk result (λ own. is_some own.1 ≡ is_known self.now.declared own.0.id) }
         ensures symbol { IfOk result (λ own. unwrap_or own.1 false ≡ is_symbol self.now.declared own.0.id) }
         ensures memory { OnErr result (is_second self.now.declared line.id ≡ true) }
     {
         let OrderLine { id, weights } = line;
-        let (id, symbol) = self.own_id(id)?;
+        let (id, symbol) = self.own_id(id, guess)?;
         Ok((OrderLine { id, weights }, symbol))
     }
 
     // An identifier by its own name, and whether that is a symbol, if it may stand in a section. Lack of memory is
     // answered for a second name alone.
-    fn own_id(&self, id: Id) -> Result<(Id, Option<bool>), AllocError>
+    fn own_id(&self, id: Id, guess: &mut usize) -> Result<(Id, Option<bool>), AllocError>
         ensures own { IfOk result (λ own. own.0 ≡ own_id self.now.declared id) }
         ensures known { IfOk result (λ own. is_some own.1 ≡ is_known self.now.declared own.0) }
         ensures symbol { IfOk result (λ own. unwrap_or own.1 false ≡ is_symbol self.now.declared own.0) }
@@ -452,7 +480,7 @@ impl TableBuilder {
         match id {
             Id::Char(c) => Ok((Id::Char(c), Some(false))),
             Id::Named(name) => {
-                let (own, symbol) = self.own_name(name)?;
+                let (own, symbol) = self.own_name(name, guess)?;
                 Ok((Id::Named(own), symbol))
             }
             Id::Undefined => Ok((Id::Undefined, Some(false))),
@@ -461,14 +489,18 @@ impl TableBuilder {
 
     // The own name of a name, and whether it is that of a symbol, if the own name is declared. Lack of memory is
     // answered for a second name alone.
-    fn own_name(&self, name: TextBuf) -> Result<(TextBuf, Option<bool>), AllocError>
+    fn own_name(
+        &self,
+        name: TextBuf,
+        guess: &mut usize,
+    ) -> Result<(TextBuf, Option<bool>), AllocError>
         ensures own { IfOk result (λ own. own.0 ≡ named_own self.now.declared name) }
         ensures known { IfOk result (λ own. is_some own.1 ≡ is_own_name self.now.declared own.0) }
         ensures symbol { IfOk result (λ own. unwrap_or own.1 false ≡ is_symbol_name self.now.declared own.0) }
         ensures memory { OnErr result (list_any (declares_second name) self.now.declared ≡ true) }
     {
         self.lemma_sound();
-        match self.builder.declaration(&name) {
+        match self.builder.declaration_behind(&name, guess) {
             Some(Declaration::Symbol(_)) => Ok((name, Some(true))),
             Some(Declaration::Element { .. }) => Ok((name, Some(false))),
             Some(Declaration::Equivalence { symbol, .. }) => {

@@ -51,6 +51,18 @@ impl Body {
         }
     }
 
+    /// The declaration of a name, if it is declared, as `declaration` tells it. The name is looked for at a guess first, and the guess
+    /// is then the name declared behind it: who asks for names in the order of their declarations mostly finds them so.
+    pub fn declaration_behind(&self, name: &str, guess: &mut usize) -> Option<&Declaration>
+        ensures { option_copied result ≡ declaration_at (declared_at self.now.layout) (chars name.now) }
+    {
+        self.nodes.lemma_layout();
+        match self.keys.names.find_behind(name, guess) {
+            Some(node) => declaration_of(self.nodes.content(node)),
+            None => None,
+        }
+    }
+
     /// The own name of a declared name.
     pub fn resolve(&self, name: &str) -> Option<&str>
         ensures { option_map (λ own. chars own.now) result ≡ own_name (declared_at self.now.layout) (chars name.now) }

@@ -9,7 +9,7 @@ use Rattle.coll_nodes.specs.Entries.{entry_of}
 use Rattle.coll_syntax.specs.declared.statements.OrderLine.{OrderLine}
 use Rattle.coll_texts.specs.SoundStates.{MayBePut}
 use Rattle.coll_texts.proofs.SoundLines.{proper_own, may_be_put}
-use Rattle.coll_texts.proofs.table_builder.TableBuilder.place.Goals as goal
+use Rattle.coll_texts.proofs.table_builder.TableBuilder.place_behind.Goals as goal
 
 pub put-requires : goal.put-requires
 put-requires c =
