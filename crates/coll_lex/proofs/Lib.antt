@@ -8,7 +8,6 @@ pub mod ScanRows
 pub mod ScanLines
 pub mod SymbolLemmas
 pub mod PlainTextLemmas
-pub mod SymbolLineLemmas
 pub mod LineEnds
 pub mod FeedLemmas
 pub mod LineFaults

@@ -1,32 +1,38 @@
 -- Texts of a line that are read token by token where they stand.
-use Rattle.std.proofs.Common.{◌≡◌, ℕ, ◌+◌, ◌<◌, ◌==◌, ◌||◌, Bool, true, false, List, [], ◌∷◌, ◌++◌, length, drop, get_or}
+use Rattle.std.proofs.Common.{◌≡◌, ◌≢◌, ℕ, zero, suc, ◌+◌, ◌<◌, ◌≤◌, ◌==◌, ◌||◌, not, nat_lt, inl, Bool, true, false, List, [], ◌∷◌, ◌++◌, length, take, drop, get_or}
 use Rattle.std.proofs.Common.{chars, IsUtf8, Option, Some, None, Result, Ok, Err, refl, ap, sym, ◌∙◌, arith}
 use Rattle.std.specs.Option.{option_map}
+use Rattle.std.specs.Bool.{OnTrue}
 use Rattle.std.specs.Prelude.{is_some}
 use Rattle.std.specs.List.{list_all}
 use Rattle.std.specs.declared.alloc.Global.{Global}
+use Rattle.std.proofs.Math.Seq.{take-append_seam}
+use Rattle.std.proofs.lemmas.Bool.{and_from, and_parts}
 use Rattle.std.proofs.lemmas.Bool.Decides.{nat_tests}
-use Rattle.std.proofs.lemmas.List.{append-nil, length-append}
-use Rattle.std.proofs.lemmas.Str.{chars-nil}
+use Rattle.std.proofs.lemmas.List.{append-nil, drop_more, length-append, take_all, take-append-drop}
+use Rattle.std.specs.Str.{IsCharBoundary}
+use Rattle.std.proofs.lemmas.Str.{chars-nil, IsCharBoundary-from_take, IsUtf8-from_ascii}
 use Rattle.coll_devices.specs.PhysicalLines.{without_return}
 use Rattle.coll_lex.specs.Blanks.{is_blank}
 use Rattle.coll_lex.specs.Directives.{directive}
 use Rattle.coll_lex.specs.LogicalLines.{LexerState, dropped, answer_to, line_fault, reading_in}
 use Rattle.coll_lex.specs.Lexer.{empty_line, added, line_in}
-use Rattle.coll_lex.specs.Marked.{marks, is_joined, joined_marks}
-use Rattle.coll_lex.specs.PlainTexts.{IsNext, IsPlainLine, IsWholeWord, Spells, plain_reading}
-use Rattle.coll_lex.specs.Runs.{is_word_byte, begins_with_separator, TakesRun, BeginsWithSymbol, GivesSymbol}
+use Rattle.coll_lex.specs.Marked.{marks, ends_escaped, is_joined, joined_marks}
+use Rattle.coll_lex.specs.PlainTexts.{IsNext, IsOver, IsPlainLine, IsWholeWord, Spells, plain_reading}
+use Rattle.coll_lex.specs.Runs.{is_blank_byte, begins_comment, is_keyword_byte, is_word_byte, begins_with_separator, TakesRun, BeginsWithSymbol, GivesSymbol}
 use Rattle.coll_lex.specs.Scanning.{fresh, reading_left}
-use Rattle.coll_lex.specs.Tokens.{atoms, reading, symbol_of, with_token}
+use Rattle.coll_lex.specs.Tokens.{AtComment, atoms, reading, stopped, symbol_of, with_token}
 use Rattle.coll_lex.specs.declared.faults.LexFault.{LexFault}
 use Rattle.coll_lex.specs.declared.logical_lines.Open.{Open}
 use Rattle.coll_lex.specs.declared.scanning.Scan.{Scan}
+use Rattle.coll_lex.specs.declared.scanning.Mode.TheVariants as mode
 use Rattle.coll_lex.specs.declared.tokens.Chars.{Chars}
 use Rattle.coll_lex.specs.declared.tokens.Piece.{Piece}
 use Rattle.coll_lex.specs.declared.tokens.Token.{Token}
 use Rattle.coll_lex.specs.declared.tokens.Token.TheVariants as token
 use Rattle.coll_lex.proofs.FeedLemmas.{after_at_end, fed_first}
-use Rattle.coll_lex.proofs.RunLemmas.{blank_passed, closed, first_stands, run_more, semicolon_taken, separator_first, some_begins, symbol_shortens, symbol_taken, word_chars, word_closed, word_run_taken}
+use Rattle.coll_lex.proofs.ScanRows.{IsNoSeparator, comment_outside}
+use Rattle.coll_lex.proofs.RunLemmas.{blank_passed, closed, first_stands, run_more, run_none, run_one, semicolon_taken, separator_first, some_begins, symbol_shortens, symbol_taken, word_chars, word_closed, word_run_taken}
 
 module _ (special : Chars) (alloc : Global) where
   -- a scan that has read nothing but this token
@@ -106,6 +112,112 @@ module _ (special : Chars) (alloc : Global) where
   unfolding reading_left
   blank_same text rest h =
       sym (rw (append-nil (marks special.escape false (chars text)), append-nil (marks special.escape false (chars rest))) at (h.reads []))
+
+  -- what is left of a line that is over
+
+  blank_byte : (b : ℕ) → is_blank_byte special.escape b ≡ true → (is_blank b ≡ true) × (b ≢ special.escape)
+  blank_byte b h =
+      let parts = and_parts (is_blank b) (not (b == special.escape)) h in
+      let other : b ≢ special.escape = grind (arith, nat_tests) in
+      (parts.0, other)
+
+  blanks_passed : (blanks rest : List ℕ) → list_all (is_blank_byte special.escape) blanks ≡ true → TakesRun special (fresh alloc) (blanks ++ rest) (fresh alloc) rest
+  blanks_passed [] rest h = run_none special (fresh alloc) rest
+  blanks_passed (b ∷ bs) rest h =
+      let parts = and_parts (is_blank_byte special.escape b) (list_all (is_blank_byte special.escape) bs) h in
+      let blank = blank_byte b parts.0 in
+      run_more special (fresh alloc) (fresh alloc) (fresh alloc) (b ∷ (bs ++ rest)) (bs ++ rest) rest
+      (blank_passed special (fresh alloc) (b ∷ (bs ++ rest)) (bs ++ rest) b refl refl refl refl (record { is = inl blank.0; no_escape = blank.1 }) blank.0) (blanks_passed bs rest parts.1)
+
+  nothing_over : (rest : List ℕ) → (length rest == 0) ≡ true → IsOver special rest
+  unfolding marks atoms reading ends_escaped
+  nothing_over [] e = record { none = rw chars-nil refl; whole = record { whole = rw chars-nil refl } }
+  nothing_over (c ∷ cs) e = absurd (grind (arith, nat_tests))
+
+  record IsCommentByte (c : ℕ) : Type 0 where
+    ascii : nat_lt c 128 ≡ true
+    is : c ≡ special.comment
+    no_escape : c ≢ special.escape
+    no_separator : IsNoSeparator c
+
+  comment_byte : (c : ℕ) → begins_comment special c ≡ true → IsCommentByte c
+  comment_byte c h = record {
+    ascii = grind (arith, nat_tests);
+    is = grind (arith, nat_tests);
+    no_escape = grind (arith, nat_tests);
+    no_separator = record { no_bracket = grind (arith, nat_tests); no_blank = grind (arith, nat_tests); no_semicolon = grind (arith, nat_tests); no_comma = grind (arith, nat_tests) };
+  }
+
+  comment_stops : (c : ℕ) (rest : List ℕ) → begins_comment special c ≡ true → plain_reading special (c ∷ rest) ≡ stopped AtComment
+  unfolding reading_left
+  comment_stops c rest h =
+      let byte = comment_byte c h in
+      let run = run_one special (fresh alloc) (record (fresh alloc) { mode = mode.Comment }) c rest byte.ascii refl byte.no_escape (comment_outside special.comment (fresh alloc) c refl byte.is byte.no_separator) in
+      rw (append-nil (marks special.escape false (chars (c ∷ rest)))) at (run.reads [])
+
+  comment_over : (c : ℕ) (rest : List ℕ) → begins_comment special c ≡ true → IsOver special (c ∷ rest)
+  comment_over c rest h =
+      let stops = comment_stops c rest h in
+      record { none = rw stops refl; whole = record { whole = rw stops tt } }
+
+  over_behind : (text rest : List ℕ) → TakesRun special (fresh alloc) text (fresh alloc) rest → IsOver special rest → IsOver special text
+  over_behind text rest h o =
+      let same = blank_same text rest h in
+      record { none = rw (← same) o.none; whole = record { whole = rw (← same, h.ends) o.whole.whole } }
+
+  pub over_all : (text : List ℕ) (n : ℕ) → list_all (is_blank_byte special.escape) (take n text) ≡ true → length text ≤ n → IsOver special text
+  over_all text n h within =
+      let blanks = rw (take_all n text within) at h in
+      over_behind text [] (rw (append-nil text) at (blanks_passed text [] blanks)) (nothing_over [] refl)
+
+  pub over_from : (text : List ℕ) (n : ℕ) → list_all (is_blank_byte special.escape) (take n text) ≡ true → n < length text → begins_comment special (get_or text n 0) ≡ true → IsOver special text
+  over_from text n h within comment =
+      let rest = get_or text n 0 ∷ drop (n + 1) text in
+      let cut : take n text ++ rest ≡ text = rw (← drop_more text n 0 within) (take-append-drop n text) in
+      over_behind text rest (rw cut at (blanks_passed (take n text) rest h)) (comment_over (get_or text n 0) (drop (n + 1) text) comment)
+
+-- keywords
+
+keyword_small : (word : List ℕ) (i : ℕ) → list_all is_keyword_byte word ≡ true → get_or word i 0 < 128
+keyword_small [] i h = omega arith
+keyword_small (b ∷ bs) zero h = let byte = (and_parts (is_keyword_byte b) (list_all is_keyword_byte bs) h).0 in grind (arith, nat_tests)
+keyword_small (b ∷ bs) (suc i) h = keyword_small bs i (and_parts (is_keyword_byte b) (list_all is_keyword_byte bs) h).1
+
+-- a text may be cut behind a keyword
+pub keyword_cut : (text word : List ℕ) → IsUtf8 text → text ≡ word ++ drop (length word) text → list_all is_keyword_byte word ≡ true → IsCharBoundary text (length word)
+keyword_cut text word u e h =
+    let long = ap length e in
+    let within : length word ≤ length text = omega (arith, length-append word (drop (length word) text)) in
+    let same : take (length word) text ≡ word = rw e (take-append_seam word (drop (length word) text)) in
+    IsCharBoundary-from_take text (length word) u within (rw same (IsUtf8-from_ascii word (λ i. keyword_small word i h)))
+
+keyword_byte : (special : Chars) (b : ℕ) → is_keyword_byte b ≡ true → is_keyword_byte special.comment ≡ false → is_keyword_byte special.escape ≡ false → is_word_byte special b ≡ true
+keyword_byte special b h c e = grind (arith, nat_tests)
+
+-- a keyword is a word where neither of the two characters is in it
+keyword_word : (special : Chars) (word : List ℕ) → list_all is_keyword_byte word ≡ true → is_keyword_byte special.comment ≡ false → is_keyword_byte special.escape ≡ false
+    → list_all (is_word_byte special) word ≡ true
+keyword_word special [] h c e = refl
+keyword_word special (b ∷ bs) h c e =
+    let parts = and_parts (is_keyword_byte b) (list_all is_keyword_byte bs) h in
+    and_from (is_word_byte special b) (list_all (is_word_byte special) bs) (keyword_byte special b parts.0 c e) (keyword_word special bs parts.1 c e)
+
+pub told : (b : Bool) (P : Type 0) → (b ≡ true → P) → OnTrue b P
+told true P h = h refl
+told false P h = tt
+
+ended_by : (a b : Bool) → b ≡ true → (a || b) ≡ true
+ended_by true b e = refl
+ended_by false b e = e
+
+pub whole_keyword : (special : Chars) (text word rest : List ℕ) → text ≡ word ++ rest → 0 < length word → list_all is_keyword_byte word ≡ true → is_keyword_byte special.comment ≡ false
+    → is_keyword_byte special.escape ≡ false → begins_with_separator special.escape rest ≡ true → IsWholeWord special text word rest
+whole_keyword special text word rest is some h c e ended = record {
+  is = is;
+  some = some;
+  plain = keyword_word special word h c e;
+  ended = ended_by (length rest == 0) (begins_with_separator special.escape rest) ended;
+}
 
 -- where a line begins
 

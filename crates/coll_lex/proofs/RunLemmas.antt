@@ -91,7 +91,7 @@ below : (b : ℕ) → nat_lt b 128 ≡ true → b < 128
 below b h = grind (arith, nat_tests)
 
 -- a plain character that the scan takes
-run_one : (special : Chars) (s new : Scan) (b : ℕ) (rest : List ℕ) → nat_lt b 128 ≡ true → s.escaped ≡ false → b ≢ special.escape → TakesMark special.comment s (Plain b) new → TakesRun special s (b ∷ rest) new rest
+pub run_one : (special : Chars) (s new : Scan) (b : ℕ) (rest : List ℕ) → nat_lt b 128 ≡ true → s.escaped ≡ false → b ≢ special.escape → TakesMark special.comment s (Plain b) new → TakesRun special s (b ∷ rest) new rest
 run_one special s new b rest h e f t =
     let taken = plain_taken special s new b e f t in
     let first = ascii_first b rest h in

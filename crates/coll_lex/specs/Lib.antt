@@ -16,5 +16,4 @@ pub mod ReadingBack
 pub mod Runs
 pub mod Scanning
 pub mod Spelling
-pub mod SymbolLines
 pub mod Tokens

@@ -1,7 +1,7 @@
 -- Runs of bytes that a scan takes at once: all of them are ASCII, so each is a character, and none has a meaning of its own there.
-use Rattle.std.specs.Prelude.{◌≡◌, ◌≢◌, ◌<◌, ℕ, length, Bool, true, false, if◌then◌else◌, ◌==◌, ◌&&◌, ◌||◌, not, nat_lt, List, [], ◌∷◌, ◌++◌, chars, Result, Ok, Err}
+use Rattle.std.specs.Prelude.{◌≡◌, ◌≢◌, ◌<◌, ℕ, length, Bool, true, false, if◌then◌else◌, ◌==◌, ◌&&◌, ◌||◌, not, nat_lt, nat_le, List, [], ◌∷◌, ◌++◌, chars, Result, Ok, Err}
 use Rattle.std.specs.List.{list_all}
-use Rattle.coll_lex.specs.Characters.{space, quotation_mark, comma, semicolon, less_than, greater_than}
+use Rattle.coll_lex.specs.Characters.{space, quotation_mark, comma, hyphen, semicolon, less_than, greater_than}
 use Rattle.coll_lex.specs.Blanks.{is_blank}
 use Rattle.coll_lex.specs.Marked.{Mark, marks, ends_escaped}
 use Rattle.coll_lex.specs.Tokens.{token_of}
@@ -37,6 +37,18 @@ is_separator escape b = (is_blank b || (b == semicolon) || (b == comma)) && not 
 abbrev pub begins_with_separator : (escape : ℕ) → List ℕ → Bool
 begins_with_separator escape [] = false
 begins_with_separator escape (b ∷ bs) = is_separator escape b
+
+-- a blank that isn't the escape character
+abbrev pub is_blank_byte : (escape : ℕ) → ℕ → Bool
+is_blank_byte escape b = is_blank b && not (b == escape)
+
+-- a byte of ASCII that is the comment character, and none of those that are looked for before it
+abbrev pub begins_comment : Chars → ℕ → Bool
+begins_comment special b = (b == special.comment) && not (b == special.escape) && is_graphic b && not (b == less_than) && not (b == semicolon) && not (b == comma)
+
+-- a small letter of ASCII or a hyphen, of which keywords are made
+abbrev pub is_keyword_byte : ℕ → Bool
+is_keyword_byte b = (nat_le 97 b && nat_le b 122) || (b == hyphen)
 
 -- a part that leaves the escapes at the end of the line as they are
 pub record TakesRun (special : Chars) (old : Scan) (text : List ℕ) (new : Scan) (rest : List ℕ) : Type 0 where

@@ -9,7 +9,6 @@ ghost use Rattle.coll_lex.specs.LogicalLines.{line_of};
 ghost use Rattle.coll_lex.specs.Names.{LinesHaveTokens, LexersHoldText};
 
 pub(crate) mod plain_tokens;
-mod symbol_lines;
 
 use crate::category::begins_category;
 use crate::directives::directive;

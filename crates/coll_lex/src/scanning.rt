@@ -20,7 +20,9 @@ mod word;
 
 use crate::buffers::Gathered;
 use crate::{Chars, LexFault, ListBuf, Piece, Token};
-pub(crate) use runs::{begins_with_separator, name_length, whole_symbol, word_length};
+pub(crate) use runs::{
+    begins_comment, begins_with_separator, blanks_length, whole_symbol, word_length,
+};
 use std::alloc::Global;
 
 /// Where in a line the scan is.

@@ -1,7 +1,7 @@
 pub mod ElementLemmas
 pub mod KeptReading
 pub mod ListReading
-pub mod PlainOrderLemmas
+pub mod PlainLineLemmas
 pub mod ProperLines
 pub mod ProperOperands
 pub mod ProperTests

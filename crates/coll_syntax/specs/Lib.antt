@@ -5,7 +5,6 @@ pub mod KeptLines
 pub mod Keywords
 pub mod Operands
 pub mod OrderLines
-pub mod PlainOrders
 pub mod Proper
 pub mod Rules
 pub mod SyntaxFaults

@@ -3,7 +3,7 @@
 //! A line comes from the lexer as its tokens, and leaves as plain data: `parse_table_line` and `parse_delta_line` read
 //! it from left to right, and the first token that doesn't fit gives the fault. The types come first (`identifiers`,
 //! `weights`, `rules`, `statements`, `lines`), then the reading of tokens (`keywords`, `operands`, `elements`,
-//! `weight_lists`, `rule_lists`, `order_lines`) and of whole lines (`table_lines`, `delta_lines`; `plain_orders`, which asks
+//! `weight_lists`, `rule_lists`, `order_lines`) and of whole lines (`table_lines`, `delta_lines`; `plain_lines`, which asks
 //! the lexer for one token after another where a line can be read so); `syntax_faults` has the faults. What a line says is
 //! defined in `specs/`: `identifiers` in `Identifier`, `weight_lists` in `Weights`, `rule_lists` in `Rules`, what is proper in
 //! `Proper`, and the others in the file of their name. A new kind of line is a variant of
@@ -18,7 +18,7 @@ mod keywords;
 mod lines;
 mod operands;
 mod order_lines;
-mod plain_orders;
+mod plain_lines;
 mod rule_lists;
 mod rules;
 mod statements;
@@ -33,7 +33,7 @@ pub use identifiers::Id;
 pub use keywords::is_word;
 pub use lines::{DeltaLine, TableLine};
 pub use operands::{copied_name, ended, id_of};
-pub use plain_orders::parse_plain_order;
+pub use plain_lines::parse_plain_line;
 pub use rules::{MOST_LEVELS, Rule, Rules};
 pub use statements::{MOST_BLOCK_LINES, OrderLine, Statement};
 pub use syntax_faults::SyntaxFault;

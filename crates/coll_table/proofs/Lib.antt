@@ -38,7 +38,6 @@ pub mod RecordFlips
 pub mod RecordForgets
 pub mod RecordPutsIn
 pub mod RecordTurns
-pub mod SymbolRows
 pub mod TextLoading
 pub mod TextSteps
 pub mod TurningBack

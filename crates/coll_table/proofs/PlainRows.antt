@@ -1,22 +1,21 @@
--- Order lines that a loader reads from their text.
+-- Lines that a loader reads from their text.
 use Rattle.std.proofs.Common.{◌≡◌, ◌<◌, ◌+◌, ℕ, Bool, true, false, List, [], ◌∷◌, length, chars, Some, None, Ok, refl, ap, sym, ◌∙◌, arith}
 use Rattle.std.specs.Prelude.{IsUtf8}
 use Rattle.std.proofs.lemmas.List.{append-nil}
 use Rattle.std.proofs.lemmas.List.Elements.{All-nil}
 use Rattle.coll_lex.specs.Lexer.{empty_line, added}
-use Rattle.coll_lex.specs.LogicalLines.{LexerState, OpenLine, answer_to, dropped, fed, line_of, number_of, reading_in, takes_memory}
+use Rattle.coll_lex.specs.LogicalLines.{LexerState, OpenLine, answer_at, dropped, fed, line_of, number_of, reading_in, takes_memory}
 use Rattle.coll_lex.specs.Marked.{is_joined, joined_marks, marks}
 use Rattle.coll_lex.specs.Names.{AreTokens, HoldsText}
-use Rattle.coll_lex.specs.PlainTexts.{IsPlainLine, plain_reading}
+use Rattle.coll_lex.specs.PlainTexts.{EndsWhole, IsPlainLine, IsReadWhole, plain_reading}
 use Rattle.coll_lex.specs.Scanning.{gathers_by}
-use Rattle.coll_lex.specs.Tokens.{AtEnd, Reading, Stop}
+use Rattle.coll_lex.specs.Tokens.{Stop, AtFault, AtComment, AtEnd, InSymbol, InString}
 use Rattle.coll_lex.specs.declared.tokens.Chars.{Chars}
 use Rattle.coll_lex.specs.declared.tokens.Token.{Token}
 use Rattle.coll_lex.proofs.FeedLemmas.{gathered}
 use Rattle.coll_lex.proofs.LineFaults.{reading_in_faults}
 use Rattle.coll_lex.proofs.NameLemmas.{fed-tokens}
 use Rattle.coll_syntax.specs.KeptLines.{kept_line}
-use Rattle.coll_syntax.specs.PlainOrders.{IsReadWhole}
 use Rattle.coll_syntax.specs.Proper.{IsProperTableLine}
 use Rattle.coll_syntax.specs.declared.lines.TableLine.{TableLine}
 use Rattle.coll_syntax.proofs.ProperLines.{kept_proper}
@@ -34,9 +33,13 @@ said_proper [] read a e = cc
 said_proper (t ∷ ts) read a e = kept_proper (t ∷ ts) t ts (Ok read) a refl e
 
 -- the answer to a reading that is whole
-whole_answer : (next : LexerState) (o : OpenLine) (joined : Bool) (r : Reading) (read : TableLine) → r.stop ≡ AtEnd → joined ≡ false → kept_line r.tokens ≡ Ok read
-    → answer_to next o joined r ≡ Ok (Some (record { number = o.number; tokens = r.tokens }), next)
-whole_answer next o joined r read e f said = rw (e, f, line_there o.number r.tokens read said) refl
+whole_answer : (next : LexerState) (o : OpenLine) (joined : Bool) (ts : List Token) (stop : Stop) (read : TableLine) → EndsWhole stop joined → kept_line ts ≡ Ok read
+    → answer_at next o joined ts stop ≡ Ok (Some (record { number = o.number; tokens = ts }), next)
+whole_answer next o joined ts (AtFault fault) read whole said = absurd whole
+whole_answer next o joined ts AtComment read whole said = rw (line_there o.number ts read said) refl
+whole_answer next o joined ts AtEnd read whole said = rw (whole, line_there o.number ts read said) refl
+whole_answer next o joined ts InSymbol read whole said = absurd whole
+whole_answer next o joined ts InString read whole said = absurd whole
 
 -- the number of a line behind no open one
 numbered_next : (s : LexerState) → s.line ≡ None → s.count + 1 ≡ number_of s
@@ -48,7 +51,7 @@ pub plain_fed : (s : LexerState) (line text : List ℕ) (read : TableLine) → I
 plain_fed s line text read plain alone whole said =
     let o = added (empty_line (s.count + 1)) text (length line) in
     let r = plain_reading s.special text in
-    rw (← numbered_next s alone) (plain.answered ∙ whole_answer (dropped s) o (is_joined s.special.escape (chars text)) r read whole.stop whole.alone said)
+    rw (← numbered_next s alone) (plain.answered ∙ whole_answer (dropped s) o (is_joined s.special.escape (chars text)) r.tokens r.stop read whole.whole said)
 
 -- what it says is proper
 none_held : (s : LexerState) → s.line ≡ None → HoldsText s

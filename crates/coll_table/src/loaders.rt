@@ -5,11 +5,9 @@
 //! first, and what it means to the second; here lines are passed on, and faults get the number of their line. A fault is stored
 //! where it is met, in `line` alone.
 
-ghost use Rattle.std.specs.Prelude.{[], chars, codes};
 ghost use Rattle.std.specs.Prelude.{◌≡◌, ◌≢◌, true, false, None, Ok, Err, Some, IsTrue, IfOk, IfErr, IfSome, IfNone, OnOk, OnErr};
 ghost use Rattle.coll_lex.specs.LogicalLines.{number_of, fed, outside, takes_memory};
-ghost use Rattle.coll_lex.specs.Names.{AreTokens, IsName};
-ghost use Rattle.coll_lex.specs.SymbolLines.{symbol_tokens};
+ghost use Rattle.coll_lex.specs.Names.{AreTokens};
 ghost use Rattle.coll_syntax.specs.KeptLines.{kept_line};
 ghost use Rattle.coll_syntax.specs.Proper.{IsProperTableLine};
 ghost use Rattle.coll_syntax.specs.TableLines.{table_line};
@@ -22,9 +20,9 @@ ghost use Rattle.coll_nodes.specs.WellFormed.{IsWellFormed};
 ghost use Rattle.coll_texts.specs.declared.load_faults.LoadCause.TheVariants.{OutOfMemory};
 
 use crate::Table;
-use coll_lex::{Lexer, Line, TextBuf};
+use coll_lex::{Lexer, Line};
 use coll_lookups::HashKeys;
-use coll_syntax::{Id, OrderLine, TableLine, parse_kept_line, parse_plain_order};
+use coll_syntax::{TableLine, parse_kept_line, parse_plain_line};
 use coll_texts::{LoadCause, LoadFault, TableBuilder};
 use std::alloc::{AllocError, Global};
 use std::marker::Model;
@@ -212,8 +210,8 @@ impl Loader {
         }
     }
 
-    // Takes a line of the category. One that is a symbol alone places it, and one that is a symbol behind its keyword declares it:
-    // most lines are so, and no token is made of them, nor of most that give a character weights.
+    // Takes a line of the category. Nearly all lines declare a symbol, place one, or give a character weights: such a line is read from
+    // its text, and no token is made of it.
     fn take_physical(&mut self, line: &[u8]) -> Result<(), LoadFault>
         requires { self.old.ended ≡ false }
         ensures ok { OnOk result (by_fed self.old (fed self.old.lexer line.now) ≡ Ok self.new) }
@@ -224,34 +222,13 @@ impl Loader {
         ensures ended { OnErr result (self.new.ended ≡ self.old.ended) }
     {
         let number = self.lexer.next_number();
-        if let Some(name) = self.lexer.feed_symbol(b"", line) {
-            return self.place_name(number, name);
-        }
-        if let Some(name) = self.lexer.feed_symbol(b"collating-symbol", line) {
-            return self.declare_name(number, name);
-        }
-        self.take_plain(number, line)
-    }
-
-    // Takes a line of the category, which has this number: where it is the order line of a character with weights that can be lent,
-    // from its text, and otherwise token by token.
-    fn take_plain(&mut self, number: u32, line: &[u8]) -> Result<(), LoadFault>
-        requires number { number ≡ number_of self.old.lexer }
-        requires going { self.old.ended ≡ false }
-        ensures ok { OnOk result (by_fed self.old (fed self.old.lexer line.now) ≡ Ok self.new) }
-        ensures err { IfErr result (λ fault. fault.cause ≢ OutOfMemory → by_fed self.old (fed self.old.lexer line.now) ≡ Err fault) }
-        ensures memory { IfErr result (λ fault. fault.cause ≡ OutOfMemory → IsTrue (takes_memory self.old.lexer line.now)) }
-        ensures starved_at { IfErr result (λ fault. fault.cause ≡ OutOfMemory → fault.line ≡ number_of self.old.lexer) }
-        ensures cause { IfErr result (λ fault. IsLineCause fault.cause) }
-        ensures ended { OnErr result (self.new.ended ≡ self.old.ended) }
-    {
         let Some(text) = self.lexer.plain_text(line) else {
             return self.take_fed(number, line);
         };
-        match parse_plain_order(self.alloc, &self.lexer, text) {
-            Ok(Some(order)) => {
+        match parse_plain_line(self.alloc, &self.lexer, text) {
+            Ok(Some(read)) => {
                 self.lexer.pass_line();
-                self.take_read(number, TableLine::Order(order))
+                self.take_read(number, read)
             }
             Ok(None) => self.take_fed(number, line),
             Err(_) => {
@@ -279,47 +256,6 @@ impl Loader {
                 line: number,
                 cause: LoadCause::from(fault),
             }),
-        }
-    }
-
-    // Takes a line that is the symbol of this name alone: its entry, which has no weights.
-    fn place_name(&mut self, number: u32, name: &str) -> Result<(), LoadFault>
-        requires name { IsName (chars name.now) }
-        requires going { self.old.ended ≡ false }
-        ensures ok { OnOk result (by_read self.old number (table_line (symbol_tokens [] (chars name.now))) ≡ Ok self.new) }
-        ensures err { IfErr result (λ fault. fault.cause ≢ OutOfMemory
-            → by_read self.old number (table_line (symbol_tokens [] (chars name.now))) ≡ Err fault) }
-        ensures starved_at { IfErr result (λ fault. fault.cause ≡ OutOfMemory → fault.line ≡ number) }
-        ensures cause { IfErr result (λ fault. IsLineCause fault.cause) }
-        ensures ended { OnErr result (self.new.ended ≡ self.old.ended) }
-    {
-        match TextBuf::copied(self.alloc, name) {
-            Ok(name) => self.take_read(
-                number,
-                TableLine::Order(OrderLine {
-                    id: Id::Named(name),
-                    weights: None,
-                }),
-            ),
-            Err(_) => Err(starved(number)),
-        }
-    }
-
-    // Takes a line that is the symbol of this name behind its keyword: its declaration.
-    fn declare_name(&mut self, number: u32, name: &str) -> Result<(), LoadFault>
-        requires name { IsName (chars name.now) }
-        requires going { self.old.ended ≡ false }
-        ensures ok { OnOk result (by_read self.old number (table_line (symbol_tokens (codes "collating-symbol") (chars name.now)))
-            ≡ Ok self.new) }
-        ensures err { IfErr result (λ fault. fault.cause ≢ OutOfMemory
-            → by_read self.old number (table_line (symbol_tokens (codes "collating-symbol") (chars name.now))) ≡ Err fault) }
-        ensures starved_at { IfErr result (λ fault. fault.cause ≡ OutOfMemory → fault.line ≡ number) }
-        ensures cause { IfErr result (λ fault. IsLineCause fault.cause) }
-        ensures ended { OnErr result (self.new.ended ≡ self.old.ended) }
-    {
-        match TextBuf::copied(self.alloc, name) {
-            Ok(name) => self.take_read(number, TableLine::Symbol(name)),
-            Err(_) => Err(starved(number)),
         }
     }
 

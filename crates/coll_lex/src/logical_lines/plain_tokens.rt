@@ -1,14 +1,15 @@
 //! Lines whose tokens are read where they stand.
 //!
 //! A line that makes no token is faster by far: who reads it asks for one token after another, and each is lent from the line, as
-//! long as it is a symbol or a word with no escape in it, or a semicolon. What is none of these is left to `feed`, which takes the
-//! line from its beginning. What a token is isn't stated here: each is that of the reading, proved from the moves of the scan.
+//! long as it is a symbol or a word with no escape in it, or a semicolon, up to the line's end or its comment. What is none of these
+//! is left to `feed`, which takes the line from its beginning. What a token is isn't stated here: each is that of the reading, proved
+//! from the moves of the scan.
 
 ghost use Rattle.std.specs.Prelude.{◌≡◌, ◌<◌, ◌==◌, ◌∷◌, ◌++◌, [], ◌+◌, length, false, true, chars, IsTrue, IsUtf8, None, Ok, Some, IfSome, IfNone};
 ghost use Rattle.std.specs.Bool.{OnTrue};
 ghost use Rattle.std.specs.List.{list_all};
-ghost use Rattle.coll_lex.specs.PlainTexts.{IsNext, IsPlainLine, IsWholeWord, Spells, plain_reading, token_in};
-ghost use Rattle.coll_lex.specs.Runs.{is_graphic};
+ghost use Rattle.coll_lex.specs.PlainTexts.{IsNext, IsOver, IsPlainLine, IsWholeWord, Spells, plain_reading, token_in};
+ghost use Rattle.coll_lex.specs.Runs.{is_graphic, is_keyword_byte};
 ghost use Rattle.coll_lex.specs.Tokens.{symbol_of};
 
 use super::{Lexer, text_of};
@@ -16,7 +17,9 @@ use crate::blanks::is_blank;
 use crate::directives::directive;
 use crate::limits::MOST_NAME_CHARS;
 use crate::names::code_point;
-use crate::scanning::{begins_with_separator, whole_symbol, word_length};
+use crate::scanning::{
+    begins_comment, begins_with_separator, blanks_length, whole_symbol, word_length,
+};
 use crate::{Chars, MOST_LINES};
 use coll_devices::{MOST_LINE_BYTES, without_return};
 
@@ -65,9 +68,46 @@ fn whole_word(special: Chars, text: &str) -> Option<(&str, &str)>
     }
 }
 
+// Whether a character may stand in a keyword.
+fn is_in_keyword(c: char) -> bool
+    ensures { result ≡ is_keyword_byte c }
+{
+    ('a' <= c && c <= 'z') || c == '-'
+}
+
+// What follows a keyword, where a text begins with it.
+fn behind_keyword<'a>(word: &[u8], text: &'a str) -> Option<&'a str>
+    requires { IsTrue (list_all is_keyword_byte word.now) }
+    ensures { IfSome result (λ rest. text.now ≡ word.now ++ rest.now) }
+{
+    if text.as_bytes().starts_with(word) {
+        Some(&text[word.len()..])
+    } else {
+        None
+    }
+}
+
+// What follows a keyword, where a text begins with it, and a separator comes after it.
+fn past_keyword<'a>(special: Chars, word: &[u8], text: &'a str) -> Option<&'a str>
+    requires word { IsTrue (list_all is_keyword_byte word.now) }
+    requires some { 0 < length word.now }
+    ensures { IfSome result (λ rest. IsWholeWord special text.now word.now rest.now) }
+{
+    let rest = behind_keyword(word, text)?;
+    if is_in_keyword(special.comment) || is_in_keyword(special.escape) {
+        return None;
+    }
+    if begins_with_separator(special.escape, rest.as_bytes()) {
+        Some(rest)
+    } else {
+        None
+    }
+}
+
 impl Lexer {
     ghost use Rattle.coll_lex.specs.LogicalLines.{dropped};
     ghost use Rattle.coll_lex.specs.Marked.{is_joined};
+    ghost use Rattle.coll_lex.specs.declared.tokens.Token.TheVariants.{Word};
 
     /// The text of a line that is read by `plain_token`, if it begins a logical line and no test refuses it before it is read. Once it
     /// is read to its end, `pass_line` counts it.
@@ -104,6 +144,25 @@ impl Lexer {
             return None;
         }
         Some((PlainToken::Semicolon, &text[1..]))
+    }
+
+    /// What follows this word, where a text begins with it. None where it doesn't, or where it has to be read otherwise.
+    pub fn past_keyword<'a>(&self, word: &[u8], text: &'a str) -> Option<&'a str>
+        requires word { IsTrue (list_all is_keyword_byte word.now) }
+        requires some { 0 < length word.now }
+        ensures { IfSome result (λ rest. IsNext self.now.special text.now (Word (chars word.now)) rest.now) }
+    {
+        let rest = past_keyword(self.special, word, text)?;
+        Some(rest)
+    }
+
+    /// Whether nothing is left of a text but blanks, and perhaps a comment. False also where it has to be read otherwise.
+    pub fn is_over(&self, text: &str) -> bool
+        ensures { OnTrue result (IsOver self.now.special text.now) }
+    {
+        let bytes = text.as_bytes();
+        let blanks = blanks_length(self.special.escape, bytes);
+        blanks == bytes.len() || begins_comment(self.special, bytes[blanks])
     }
 
     /// The text without the blank that it begins with, if it does.

@@ -1,4 +1,4 @@
-//! Runs of bytes that the scan takes at once: whole symbols, and words.
+//! Runs of bytes that are taken at once: whole symbols, words, and blanks.
 //!
 //! What makes the scan fast is here: a run is found by its bytes in the line that is there, with one test a byte, and is
 //! then taken as a slice. All bytes of a run are ASCII, so each is a character; whatever else stands in a line is read
@@ -7,6 +7,7 @@
 ghost use Rattle.std.specs.Prelude.{◌≡◌, ◌≤◌, length, take, true, IfSome};
 ghost use Rattle.std.specs.List.{list_all};
 ghost use Rattle.coll_lex.specs.Runs.{is_name_byte, is_letter, is_word_byte, is_separator, begins_with_separator, BeginsWithSymbol};
+ghost use Rattle.coll_lex.specs.Runs.{is_blank_byte, begins_comment};
 
 use crate::Chars;
 use crate::blanks::is_blank;
@@ -36,6 +37,25 @@ fn is_word_byte(special: Chars, byte: u8) -> bool
     is_letter(byte) && c != special.escape && c != special.comment
 }
 
+// Whether a byte is a blank, and isn't the escape character.
+fn is_blank_byte(escape: char, byte: u8) -> bool
+    ensures { result ≡ is_blank_byte escape byte }
+{
+    let c = char::from(byte);
+    is_blank(c) && c != escape
+}
+
+/// Whether a comment begins with this byte where no symbol, string or word is open.
+pub(crate) fn begins_comment(special: Chars, byte: u8) -> bool
+    ensures { result ≡ begins_comment special byte }
+{
+    let c = char::from(byte);
+    if c != special.comment || c == special.escape {
+        return false;
+    }
+    b' ' < byte && byte < 0x7f && byte != b'<' && byte != b';' && byte != b','
+}
+
 /// How many bytes at the front are of a name.
 pub(crate) fn name_length(escape: char, bytes: &[u8]) -> usize
     ensures within { result ≤ length bytes.now }
@@ -43,6 +63,19 @@ pub(crate) fn name_length(escape: char, bytes: &[u8]) -> usize
 {
     for (at, byte) in bytes.iter().enumerate() {
         if !is_name_byte(escape, *byte) {
+            return at;
+        }
+    }
+    bytes.len()
+}
+
+/// How many bytes at the front are blanks.
+pub(crate) fn blanks_length(escape: char, bytes: &[u8]) -> usize
+    ensures within { result ≤ length bytes.now }
+    ensures blank { list_all (is_blank_byte escape) (take result bytes.now) ≡ true }
+{
+    for (at, byte) in bytes.iter().enumerate() {
+        if !is_blank_byte(escape, *byte) {
             return at;
         }
     }

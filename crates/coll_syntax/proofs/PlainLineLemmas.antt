@@ -1,29 +1,28 @@
--- Order lines that are read token by token where they stand.
+-- Lines that are read token by token where they stand.
 use Rattle.std.proofs.Common.{◌≡◌, ℕ, ◌<◌, ◌==◌, true, false, List, [], ◌∷◌, ◌++◌, length, map, chars, Result, Ok, refl, ap, sym, ◌∙◌, append_assoc, arith}
-use Rattle.std.proofs.lemmas.Bool.Decides.{nat_tests}
-use Rattle.std.proofs.lemmas.Str.{chars-nil}
-use Rattle.coll_lex.specs.Marked.{is_joined, ends_escaped, marks}
-use Rattle.coll_lex.specs.PlainTexts.{IsNext, plain_reading}
-use Rattle.coll_lex.specs.Tokens.{AtEnd, Reading, atoms, reading, stopped, with_token}
+use Rattle.std.specs.Prelude.{codes, None}
+use Rattle.coll_lex.specs.Marked.{is_joined}
+use Rattle.coll_lex.specs.PlainTexts.{IsNext, IsOver, IsReadWhole, plain_reading}
+use Rattle.coll_lex.specs.Tokens.{Reading, with_token}
 use Rattle.coll_lex.specs.declared.tokens.Chars.{Chars}
 use Rattle.coll_lex.specs.declared.tokens.Token.{Token}
 use Rattle.coll_lex.specs.declared.tokens.Token.TheVariants as token
-use Rattle.coll_syntax.specs.KeptLines.{kept_operand, kept_weights}
+use Rattle.coll_lex.proofs.RunLemmas.{graphic_chars}
+use Rattle.coll_syntax.specs.KeptLines.{kept_line, kept_operand, kept_weights}
+use Rattle.coll_syntax.specs.Keywords.{keyword_of}
 use Rattle.coll_syntax.specs.Operands.{all_read, and_then, operands_of, read_as}
-use Rattle.coll_syntax.specs.PlainOrders.{IsReadWhole}
+use Rattle.coll_syntax.specs.declared.identifiers.Id.TheVariants.{Named}
+use Rattle.coll_syntax.specs.declared.lines.TableLine.TheVariants.{Order, Symbol}
 use Rattle.coll_syntax.specs.declared.syntax_faults.SyntaxFault.{SyntaxFault}
 use Rattle.coll_syntax.specs.declared.weights.Weight.{Weight}
 
--- nothing is left
-none_left : (special : Chars) (rest : List ℕ) → (length rest == 0) ≡ true → plain_reading special rest ≡ stopped AtEnd
-unfolding marks atoms reading
-none_left special [] e = rw chars-nil refl
-none_left special (c ∷ cs) e = absurd (grind (arith, nat_tests))
+-- a text whose first token is followed by what is all of a logical line is so too
+whole_next : (special : Chars) (text : List ℕ) (t : Token) (rest : List ℕ) → IsNext special text t rest → IsReadWhole special rest → IsReadWhole special text
+whole_next special text t rest n h = record { whole = rw (n.reads, n.ends) h.whole }
 
-none_joins : (special : Chars) (rest : List ℕ) → (length rest == 0) ≡ true → is_joined special.escape (chars rest) ≡ false
-unfolding ends_escaped
-none_joins special [] e = rw chars-nil refl
-none_joins special (c ∷ cs) e = absurd (grind (arith, nat_tests))
+-- a text that is one token, and perhaps a comment
+tokens_alone : (special : Chars) (text : List ℕ) (t : Token) (rest : List ℕ) → IsNext special text t rest → IsOver special rest → (plain_reading special text).tokens ≡ t ∷ []
+tokens_alone special text t rest n over = ap (λ (r : Reading). r.tokens) n.reads ∙ ap (λ (ts : List Token). t ∷ ts) over.none
 
 -- one operand before others, and the last one
 
@@ -75,14 +74,30 @@ reads_more own special text ws rest behind later t w h n e s =
     }
 
 pub reads_all : (own : ℕ) (special : Chars) (text : List ℕ) (ws : List Weight) (rest behind : List ℕ) (t : Token) (w : Weight) → ReadsOn own special text ws rest → IsNext special rest t behind
-    → kept_operand own (t ∷ []) ≡ Ok w → (length behind == 0) ≡ true
+    → kept_operand own (t ∷ []) ≡ Ok w → IsOver special behind
     → (kept_weights own (plain_reading special text).tokens ≡ Ok (ws ++ w ∷ [])) × (0 < length (plain_reading special text).tokens) × IsReadWhole special text
-reads_all own special text ws rest behind t w h n e none =
-    let read : plain_reading special rest ≡ with_token t (stopped AtEnd) = n.reads ∙ ap (with_token t) (none_left special behind none) in (
-      h.more (w ∷ []) (rw read (operand_alone own t w e)),
-      h.some (rw read (some_token t [])),
-      record {
-        stop = h.stop ∙ ap (λ (r : Reading). r.stop) read;
-        alone = h.joined ∙ (n.ends ∙ none_joins special behind none);
-      },
+reads_all own special text ws rest behind t w h n e over =
+    let tokens = tokens_alone special rest t behind n over in
+    let whole = whole_next special rest t behind n over.whole in (
+      h.more (w ∷ []) (rw tokens (operand_alone own t w e)),
+      h.some (rw tokens (some_token t [])),
+      record { whole = rw (h.stop, h.joined) whole.whole },
     )
+
+-- a symbol alone places its entry
+pub symbol_placed : (special : Chars) (text name rest : List ℕ) → IsNext special text (token.Symbol name) rest → IsOver special rest
+    → (kept_line (plain_reading special text).tokens ≡ Ok (Order (record { id = Named name; weights = None }))) × IsReadWhole special text
+unfolding keyword_of
+symbol_placed special text name rest n over =
+    (rw (tokens_alone special text (token.Symbol name) rest n over) refl, whole_next special text (token.Symbol name) rest n over.whole)
+
+-- behind its keyword it is declared
+pub symbol_declared : (special : Chars) (text behind left name rest : List ℕ) → IsNext special text (token.Word (chars (codes "collating-symbol"))) behind → plain_reading special left ≡ plain_reading special behind
+    → is_joined special.escape (chars left) ≡ is_joined special.escape (chars behind) → IsNext special left (token.Symbol name) rest → IsOver special rest
+    → (kept_line (plain_reading special text).tokens ≡ Ok (Symbol name)) × IsReadWhole special text
+unfolding keyword_of
+symbol_declared special text behind left name rest word same ends n over =
+    let keyword : chars (codes "collating-symbol") ≡ codes "collating-symbol" = graphic_chars (codes "collating-symbol") refl in
+    let tokens = rw same at (tokens_alone special left (token.Symbol name) rest n over) in
+    let whole = whole_next special left (token.Symbol name) rest n over.whole in
+    (rw (word.reads, tokens, keyword) refl, whole_next special text (token.Word (chars (codes "collating-symbol"))) behind word (record { whole = rw (← same, ← ends) whole.whole }))

@@ -1,20 +1,20 @@
-use Rattle.std.proofs.Common.{sym, rules}
+use Rattle.std.proofs.Common.{rules}
 use Rattle.coll_lex.specs.PlainTexts.{token_in}
-use Rattle.coll_syntax.proofs.PlainOrderLemmas.{reads_all, reads_more}
-use Rattle.coll_syntax.proofs.plain_orders.plain_weights.Goals as goal
+use Rattle.coll_syntax.proofs.PlainLineLemmas.{reads_all, reads_more}
+use Rattle.coll_syntax.proofs.plain_lines.plain_weights.Goals as goal
 
-pub returns-then-is_empty-clause-read : goal.returns-then-is_empty-clause-read
-returns-then-is_empty-clause-read c =
+pub returns-then-is_over-clause-read : goal.returns-then-is_over-clause-read
+returns-then-is_over-clause-read c =
     let kept = rw c.in-Some-2.is at c.in_ok-weight.ensures in
     let all = reads_all c.args.own c.args.lexer.now.special c.args.text.now c.operands.weights.items c.operands.rest.now c.in-Some.behind.now (token_in c.in-Some.token) c.in-Some-2.weight
-    c.operands.invariant.reads c.in-Some.ensures kept (sym c.if-is_empty.ensures) in
+    c.operands.invariant.reads c.in-Some.ensures kept c.if-is_over.ensures in
     rw (c.new.ensures, c.shrink_to_fit.ensures.items, c.in_ok-push.ensures.items) all.0
 
-pub returns-then-is_empty-clause-whole : goal.returns-then-is_empty-clause-whole
-returns-then-is_empty-clause-whole c =
+pub returns-then-is_over-clause-whole : goal.returns-then-is_over-clause-whole
+returns-then-is_over-clause-whole c =
     let kept = rw c.in-Some-2.is at c.in_ok-weight.ensures in
     (reads_all c.args.own c.args.lexer.now.special c.args.text.now c.operands.weights.items c.operands.rest.now c.in-Some.behind.now (token_in c.in-Some.token) c.in-Some-2.weight
-    c.operands.invariant.reads c.in-Some.ensures kept (sym c.if-is_empty.ensures)).2
+    c.operands.invariant.reads c.in-Some.ensures kept c.if-is_over.ensures).2
 
 pub operands-preserved : goal.operands-preserved
 operands-preserved c =

@@ -1,0 +1,151 @@
+//! Lines of a table that are read token by token where they stand.
+//!
+//! Nearly all lines of a table declare a symbol, place one, or give a character weights that are names, characters or `IGNORE`. Such
+//! a line is read from its text, each token lent from there, so that no list of tokens is made. Any other line is left to
+//! `parse_kept_line`, which says what all mean.
+
+ghost use Rattle.std.specs.Prelude.{◌≡◌, ◌<◌, [], ◌∷◌, ◌++◌, length, chars, Ok, IfOk, IfSome, IsSome, OnErr, IsTrue};
+ghost use Rattle.coll_lex.specs.PlainTexts.{IsOver, IsReadWhole, plain_reading, token_in};
+ghost use Rattle.coll_syntax.specs.KeptLines.{kept_line, kept_operand, kept_weights};
+ghost use Rattle.coll_syntax.specs.declared.lines.TableLine.TheVariants.{Order};
+
+use crate::weight_lists::one_id;
+use crate::{Id, OrderLine, TableLine, Weight};
+use coll_lex::{Lexer, ListBuf, PlainToken, TextBuf};
+use std::alloc::{AllocError, Global};
+
+/// What a line of a table says, as a loader keeps it, read from its text. None where it isn't the declaration of a symbol, nor the order
+/// line of one, nor that of a character with weights, or where a token of it isn't lent. Names are copies. Memory is taken only where
+/// the text has a token.
+pub fn parse_plain_line(
+    alloc: Global,
+    lexer: &Lexer,
+    text: &str,
+) -> Result<Option<TableLine>, AllocError>
+    ensures read { IfOk result (λ read. IfSome read (λ line. kept_line (plain_reading lexer.now.special text.now).tokens ≡ Ok line)) }
+    ensures whole { IfOk result (λ read. IfSome read (λ line. IsReadWhole lexer.now.special text.now)) }
+    ensures memory { OnErr result (0 < length (plain_reading lexer.now.special text.now).tokens) }
+{
+    let Some(behind) = lexer.past_keyword(b"collating-symbol", text) else {
+        return plain_order(alloc, lexer, text);
+    };
+    let Some((PlainToken::Symbol(name), rest)) = lexer.plain_token(lexer.past_blank(behind)) else {
+        return Ok(None);
+    };
+    match last_name(alloc, lexer, name, rest)? {
+        Some(name) => Ok(Some(TableLine::Symbol(name))),
+        None => Ok(None),
+    }
+}
+
+// The order line that a text is, of a symbol or of a character with weights.
+fn plain_order(alloc: Global, lexer: &Lexer, text: &str) -> Result<Option<TableLine>, AllocError>
+    ensures read { IfOk result (λ read. IfSome read (λ line. kept_line (plain_reading lexer.now.special text.now).tokens ≡ Ok line)) }
+    ensures whole { IfOk result (λ read. IfSome read (λ line. IsReadWhole lexer.now.special text.now)) }
+    ensures memory { OnErr result (0 < length (plain_reading lexer.now.special text.now).tokens) }
+{
+    let Some((token, behind)) = lexer.plain_token(text) else {
+        return Ok(None);
+    };
+    match token {
+        PlainToken::Symbol(name) => match last_name(alloc, lexer, name, behind)? {
+            Some(name) => Ok(Some(order_of(Id::Named(name), None))),
+            None => Ok(None),
+        },
+        PlainToken::Char(own) => {
+            match plain_weights(alloc, lexer, own, lexer.past_blank(behind))? {
+                Some(weights) => Ok(Some(order_of(Id::Char(own), Some(weights)))),
+                None => Ok(None),
+            }
+        }
+        PlainToken::Word(_) | PlainToken::Semicolon => Ok(None),
+    }
+}
+
+// The order line of an identifier with these weights, if it has any.
+fn order_of(id: Id, weights: Option<ListBuf<Weight>>) -> TableLine
+    ensures { result ≡ Order (record { id = id; weights = weights }) }
+{
+    TableLine::Order(OrderLine { id, weights })
+}
+
+// A copy of a name, if nothing but a comment stands behind it.
+fn last_name(
+    alloc: Global,
+    lexer: &Lexer,
+    name: &str,
+    behind: &str,
+) -> Result<Option<TextBuf>, AllocError>
+    ensures copy { IfOk result (λ last. IfSome last (λ copy. copy ≡ chars name.now)) }
+    ensures over { IfOk result (λ last. IfSome last (λ copy. IsOver lexer.now.special behind.now)) }
+{
+    if !lexer.is_over(behind) {
+        return Ok(None);
+    }
+    let copy = TextBuf::copied(alloc, name)?;
+    Ok(Some(copy))
+}
+
+// The weights of a character, which a text spells.
+fn plain_weights(
+    alloc: Global,
+    lexer: &Lexer,
+    own: char,
+    text: &str,
+) -> Result<Option<ListBuf<Weight>>, AllocError>
+    ensures read { IfOk result (λ read. IfSome read (λ weights.
+        kept_weights own (plain_reading lexer.now.special text.now).tokens ≡ Ok weights)) }
+    ensures some { IfOk result (λ read. IfSome read (λ weights. 0 < length (plain_reading lexer.now.special text.now).tokens)) }
+    ensures whole { IfOk result (λ read. IfSome read (λ weights. IsReadWhole lexer.now.special text.now)) }
+{
+    let mut weights = Vec::new(alloc);
+    let mut rest = text;
+    'operands: loop {
+        let Some((token, behind)) = lexer.plain_token(rest) else {
+            return Ok(None);
+        };
+        let Some(weight) = plain_operand(alloc, own, token)? else {
+            return Ok(None);
+        };
+        weights.push(weight)?;
+        if lexer.is_over(behind) {
+            weights.shrink_to_fit();
+            return Ok(Some(ListBuf::new(weights)));
+        }
+        let Some((PlainToken::Semicolon, later)) = lexer.plain_token(behind) else {
+            return Ok(None);
+        };
+        rest = later;
+    }
+}
+
+// The weight of an operand that is this token alone, on the line of a character. None where it is none, or a word but `IGNORE`.
+fn plain_operand(
+    alloc: Global,
+    own: char,
+    token: PlainToken<'_>,
+) -> Result<Option<Weight>, AllocError>
+    ensures { IfOk result (λ read. IfSome read (λ weight. kept_operand own (token_in token.entry ∷ []) ≡ Ok weight)) }
+{
+    match token {
+        PlainToken::Symbol(name) => {
+            let name = TextBuf::copied(alloc, name)?;
+            let weight = one_id(alloc, Id::Named(name))?;
+            Ok(Some(weight))
+        }
+        PlainToken::Char(c) => {
+            if c == own {
+                return Ok(Some(Weight::Own));
+            }
+            let weight = one_id(alloc, Id::Char(c))?;
+            Ok(Some(weight))
+        }
+        PlainToken::Word(word) => {
+            if word == "IGNORE" {
+                return Ok(Some(Weight::Ignore));
+            }
+            Ok(None)
+        }
+        PlainToken::Semicolon => Ok(None),
+    }
+}
