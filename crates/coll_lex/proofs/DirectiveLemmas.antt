@@ -81,3 +81,14 @@ pub escape_directive : (special : Chars) (line bs operand : List ℕ) (b : ℕ) 
 escape_directive special line bs operand b e is h =
     let other : b ≢ 99 = grind (arith, nat_tests) in
     sym (directive_escape special line operand (not_begun (past_blanks line) b 99 bs _ e other) h)
+
+-- a line that begins with a bracket is none, and so is an empty one
+
+pub bracket_first : (special : Chars) (line rest : List ℕ) (b : ℕ) → line ≡ b ∷ rest → b ≡ 60 → directive special line ≡ None
+unfolding past_blanks
+bracket_first special line rest b e is = rw (e, is) (sym (no_directive special (60 ∷ rest) rest 60 refl (omega arith) (omega arith)))
+
+pub nothing_there : (special : Chars) (line : List ℕ) → length line ≡ 0 → directive special line ≡ None
+unfolding past_blanks
+nothing_there special [] e = sym (no_directive_in_nothing special [] refl)
+nothing_there special (b ∷ bs) e = absurd (omega (arith, e))

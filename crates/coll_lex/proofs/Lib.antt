@@ -7,6 +7,7 @@ pub mod LineSteps
 pub mod ScanRows
 pub mod ScanLines
 pub mod SymbolLemmas
+pub mod PlainStringLemmas
 pub mod PlainTextLemmas
 pub mod LineEnds
 pub mod FeedLemmas

@@ -1,6 +1,6 @@
 -- Texts of a line that are read token by token where they stand.
 use Rattle.std.proofs.Common.{◌≡◌, ◌≢◌, ℕ, zero, suc, ◌+◌, ◌<◌, ◌≤◌, ◌==◌, ◌||◌, not, nat_lt, inl, Bool, true, false, List, [], ◌∷◌, ◌++◌, length, take, drop, get_or}
-use Rattle.std.proofs.Common.{chars, IsUtf8, Option, Some, None, Result, Ok, Err, refl, ap, sym, ◌∙◌, arith}
+use Rattle.std.proofs.Common.{chars, IsUtf8, Option, Some, None, Result, Ok, refl, ap, sym, ◌∙◌, arith}
 use Rattle.std.specs.Option.{option_map}
 use Rattle.std.specs.Bool.{OnTrue}
 use Rattle.std.specs.Prelude.{is_some}
@@ -18,10 +18,10 @@ use Rattle.coll_lex.specs.Directives.{directive}
 use Rattle.coll_lex.specs.LogicalLines.{LexerState, dropped, answer_to, line_fault, reading_in}
 use Rattle.coll_lex.specs.Lexer.{empty_line, added, line_in}
 use Rattle.coll_lex.specs.Marked.{marks, ends_escaped, is_joined, joined_marks}
-use Rattle.coll_lex.specs.PlainTexts.{IsNext, IsOver, IsPlainLine, IsWholeWord, Spells, plain_reading}
+use Rattle.coll_lex.specs.PlainTexts.{IsNext, IsOver, IsPlainLine, IsWholeWord, plain_reading}
 use Rattle.coll_lex.specs.Runs.{is_blank_byte, begins_comment, is_keyword_byte, is_word_byte, begins_with_separator, TakesRun, BeginsWithSymbol, GivesSymbol}
 use Rattle.coll_lex.specs.Scanning.{fresh, reading_left}
-use Rattle.coll_lex.specs.Tokens.{AtComment, atoms, reading, stopped, symbol_of, with_token}
+use Rattle.coll_lex.specs.Tokens.{AtComment, atoms, reading, stopped, symbol_of, token_of, with_token}
 use Rattle.coll_lex.specs.declared.faults.LexFault.{LexFault}
 use Rattle.coll_lex.specs.declared.logical_lines.Open.{Open}
 use Rattle.coll_lex.specs.declared.scanning.Scan.{Scan}
@@ -49,13 +49,12 @@ module _ (special : Chars) (alloc : Global) where
   run_next text rest t h shorter = record { reads = run_reads text rest t h; ends = h.ends; shorter = shorter }
 
   -- a symbol
-  spelled_given : (r : Result Piece LexFault) (t : Token) → Spells r t → GivesSymbol (fresh alloc) r (holding t)
-  spelled_given (Ok p) t e = rw e refl
-  spelled_given (Err fault) t e = absurd e
+  piece_given : (r : Result Piece LexFault) (p : Piece) (t : Token) → r ≡ Ok p → t ≡ token_of p → GivesSymbol (fresh alloc) r (holding t)
+  piece_given r p t e f = rw (e, f) refl
 
-  pub next_symbol : (text name rest : List ℕ) (t : Token) → BeginsWithSymbol special.escape text name rest → Spells (symbol_of (chars name)) t → IsNext special text t rest
-  next_symbol text name rest t h e =
-      run_next text rest t (symbol_taken special (fresh alloc) (holding t) text name rest refl refl h (spelled_given (symbol_of (chars name)) t e))
+  pub next_symbol : (text name rest : List ℕ) (p : Piece) (t : Token) → BeginsWithSymbol special.escape text name rest → symbol_of (chars name) ≡ Ok p → t ≡ token_of p → IsNext special text t rest
+  next_symbol text name rest p t h e f =
+      run_next text rest t (symbol_taken special (fresh alloc) (holding t) text name rest refl refl h (piece_given (symbol_of (chars name)) p t e f))
       (symbol_shortens special.escape text name rest h)
 
   -- a semicolon
@@ -224,10 +223,6 @@ whole_keyword special text word rest is some h c e ended = record {
 pub none_opened : (o : Option Open) → is_some o ≡ false → None ≡ option_map line_in o
 none_opened None e = refl
 none_opened (Some o) e = cc
-
-pub no_directive_there : (d : Option (Result Chars LexFault)) → is_some d ≡ false → None ≡ d
-no_directive_there None e = refl
-no_directive_there (Some r) e = cc
 
 line_read : (special : Chars) (text : List ℕ) → reading_in special (text ∷ []) ≡ plain_reading special text
 unfolding reading_in joined_marks

@@ -451,7 +451,7 @@ text_symbol_named special s text name rest m e h =
     (run_one special s (text_begun s) 60 (name ++ 62 ∷ rest) refl e h.no_opening (text_symbol_begins special.comment s m))
     (text_name_run special (text_begun s) name (62 ∷ rest) refl e h.plain))
 
-text_symbol_given : (special : Chars) (s new : Scan) (text name rest : List ℕ) (r : Result Piece LexFault) → s.mode ≡ mode.Text → s.escaped ≡ false → BeginsWithSymbol special.escape text name rest
+pub text_symbol_given : (special : Chars) (s new : Scan) (text name rest : List ℕ) (r : Result Piece LexFault) → s.mode ≡ mode.Text → s.escaped ≡ false → BeginsWithSymbol special.escape text name rest
     → symbol_of name ≡ r → GivesPiece s r new → TakesRun special s text new rest
 text_symbol_given special s new text name rest (Ok p) m e h f g =
     let ended = record s { mode = mode.Text; partial = []; pieces = s.pieces ++ p ∷ [] } in

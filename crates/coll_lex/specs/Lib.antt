@@ -11,6 +11,7 @@ pub mod Limits
 pub mod LogicalLines
 pub mod Marked
 pub mod Names
+pub mod PlainStrings
 pub mod PlainTexts
 pub mod ReadingBack
 pub mod Runs

@@ -1,16 +1,14 @@
 -- Texts of a line that are read token by token where they stand.
-use Rattle.std.specs.Prelude.{◌≡◌, ◌<◌, ◌+◌, ◌==◌, ◌||◌, ℕ, Bool, false, true, List, [], ◌++◌, length, chars, Result, Ok, Err}
+use Rattle.std.specs.Prelude.{◌≡◌, ◌<◌, ◌+◌, ◌==◌, ◌||◌, ℕ, Bool, false, true, List, [], ◌++◌, length, chars}
 use Rattle.std.specs.List.{list_all}
 use Rattle.coll_lex.specs.Lexer.{empty_line, added}
 use Rattle.coll_lex.specs.LogicalLines.{LexerState, dropped, answer_to, fed}
 use Rattle.coll_lex.specs.Marked.{marks, is_joined}
 use Rattle.coll_lex.specs.Runs.{is_word_byte, begins_with_separator}
-use Rattle.coll_lex.specs.Tokens.{Reading, Stop, AtFault, AtComment, AtEnd, InSymbol, InString, reading_of, token_of, with_token}
-use Rattle.coll_lex.specs.declared.faults.LexFault.{LexFault}
+use Rattle.coll_lex.specs.Tokens.{Reading, Stop, AtFault, AtComment, AtEnd, InSymbol, InString, reading_of, with_token}
 use Rattle.coll_lex.specs.declared.logical_lines.plain_tokens.PlainToken.{PlainToken}
 use Rattle.coll_lex.specs.declared.logical_lines.plain_tokens.PlainToken.TheVariants as plain
 use Rattle.coll_lex.specs.declared.tokens.Chars.{Chars}
-use Rattle.coll_lex.specs.declared.tokens.Piece.{Piece}
 use Rattle.coll_lex.specs.declared.tokens.Token.{Token}
 use Rattle.coll_lex.specs.declared.tokens.Token.TheVariants as token
 
@@ -30,11 +28,6 @@ pub record IsNext (special : Chars) (text : List ℕ) (t : Token) (rest : List �
   pub reads : plain_reading special text ≡ with_token t (plain_reading special rest)
   pub ends : is_joined special.escape (chars text) ≡ is_joined special.escape (chars rest)
   pub shorter : length rest < length text
-
--- what a symbol stands for is the piece of this token
-abbrev pub Spells : Result Piece LexFault → Token → Type 0
-Spells (Ok p) t = t ≡ token_of p
-Spells (Err fault) t = ⊥
 
 -- a text begins with a word that a separator or the end of the text ends
 pub record IsWholeWord (special : Chars) (text word rest : List ℕ) : Type 0 where

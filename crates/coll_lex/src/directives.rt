@@ -4,7 +4,8 @@
 //! that decides. The functions here look at one physical line without its carriage return. Another directive is
 //! another arm of `directive`, here and in the definition. Nearly all lines are told from a directive by their first byte.
 
-ghost use Rattle.std.specs.Prelude.{◌≡◌, option_map};
+ghost use Rattle.std.specs.Prelude.{◌≡◌, None, option_map};
+ghost use Rattle.std.specs.Bool.{OnTrue};
 ghost use Rattle.coll_lex.specs.Directives.{operand_of, named_character, with_comment, with_escape, directive};
 
 use crate::blanks::{begins_apart, past_blanks};
@@ -59,6 +60,20 @@ fn with_escape(special: Chars, named: Option<char>) -> Result<Chars, LexFault>
         Some(escape) if escape != special.comment => Ok(Chars { escape, ..special }),
         _ => Err(LexFault::BadCharDirective),
     }
+}
+
+/// Whether a line is told to be no directive. One that begins with a symbol is by its first byte.
+#[inline(always)]
+pub(crate) fn is_no_directive(special: Chars, line: &[u8]) -> bool
+    ensures { OnTrue result (directive special line.now ≡ None) }
+{
+    let Some((first, _)) = line.split_first() else {
+        return true;
+    };
+    if *first == b'<' {
+        return true;
+    }
+    directive(special, line).is_none()
 }
 
 /// The characters after this line if it is a directive, or its fault. None where the line is no directive.

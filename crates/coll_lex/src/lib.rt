@@ -35,6 +35,7 @@ pub use coll_devices::{
 pub use early_ends::EarlyEnd;
 pub use faults::LexFault;
 pub use limits::{MOST_LINES, limits_are_stated};
+pub use logical_lines::plain_strings::PlainPiece;
 pub use logical_lines::plain_tokens::PlainToken;
 pub use logical_lines::{Lexer, lexers_hold_text, lines_have_tokens};
 pub use names::is_name;

@@ -8,6 +8,7 @@ ghost use Rattle.std.specs.Prelude.{◌≡◌, IsUtf8, IfOk, IfErr};
 ghost use Rattle.coll_lex.specs.LogicalLines.{line_of};
 ghost use Rattle.coll_lex.specs.Names.{LinesHaveTokens, LexersHoldText};
 
+pub(crate) mod plain_strings;
 pub(crate) mod plain_tokens;
 
 use crate::category::begins_category;

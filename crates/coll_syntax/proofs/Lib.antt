@@ -2,6 +2,7 @@ pub mod ElementLemmas
 pub mod KeptReading
 pub mod ListReading
 pub mod PlainLineLemmas
+pub mod PlainWeightLemmas
 pub mod ProperLines
 pub mod ProperOperands
 pub mod ProperTests

@@ -1,5 +1,5 @@
 -- Lines that are read token by token where they stand.
-use Rattle.std.proofs.Common.{◌≡◌, ℕ, ◌<◌, ◌==◌, true, false, List, [], ◌∷◌, ◌++◌, length, map, chars, Result, Ok, refl, ap, sym, ◌∙◌, append_assoc, arith}
+use Rattle.std.proofs.Common.{◌≡◌, ℕ, ◌<◌, List, [], ◌∷◌, ◌++◌, length, map, chars, Result, Ok, refl, ap, sym, ◌∙◌, append_assoc, arith}
 use Rattle.std.specs.Prelude.{codes, None}
 use Rattle.coll_lex.specs.Marked.{is_joined}
 use Rattle.coll_lex.specs.PlainTexts.{IsNext, IsOver, IsReadWhole, plain_reading}

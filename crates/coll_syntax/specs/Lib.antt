@@ -5,6 +5,7 @@ pub mod KeptLines
 pub mod Keywords
 pub mod Operands
 pub mod OrderLines
+pub mod PlainWeights
 pub mod Proper
 pub mod Rules
 pub mod SyntaxFaults

@@ -3,7 +3,7 @@
 //! A line comes from the lexer as its tokens, and leaves as plain data: `parse_table_line` and `parse_delta_line` read
 //! it from left to right, and the first token that doesn't fit gives the fault. The types come first (`identifiers`,
 //! `weights`, `rules`, `statements`, `lines`), then the reading of tokens (`keywords`, `operands`, `elements`,
-//! `weight_lists`, `rule_lists`, `order_lines`) and of whole lines (`table_lines`, `delta_lines`; `plain_lines`, which asks
+//! `weight_lists`, `rule_lists`, `order_lines`) and of whole lines (`table_lines`, `delta_lines`; `plain_lines` with `plain_weights`, which asks
 //! the lexer for one token after another where a line can be read so); `syntax_faults` has the faults. What a line says is
 //! defined in `specs/`: `identifiers` in `Identifier`, `weight_lists` in `Weights`, `rule_lists` in `Rules`, what is proper in
 //! `Proper`, and the others in the file of their name. A new kind of line is a variant of
@@ -19,6 +19,7 @@ mod lines;
 mod operands;
 mod order_lines;
 mod plain_lines;
+mod plain_weights;
 mod rule_lists;
 mod rules;
 mod statements;

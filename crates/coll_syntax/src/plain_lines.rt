@@ -5,11 +5,11 @@
 //! `parse_kept_line`, which says what all mean.
 
 ghost use Rattle.std.specs.Prelude.{◌≡◌, ◌<◌, [], ◌∷◌, ◌++◌, length, chars, Ok, IfOk, IfSome, IsSome, OnErr, IsTrue};
-ghost use Rattle.coll_lex.specs.PlainTexts.{IsOver, IsReadWhole, plain_reading, token_in};
-ghost use Rattle.coll_syntax.specs.KeptLines.{kept_line, kept_operand, kept_weights};
+ghost use Rattle.coll_lex.specs.PlainTexts.{IsOver, IsReadWhole, plain_reading};
+ghost use Rattle.coll_syntax.specs.KeptLines.{kept_line};
 ghost use Rattle.coll_syntax.specs.declared.lines.TableLine.TheVariants.{Order};
 
-use crate::weight_lists::one_id;
+use crate::plain_weights::plain_weights;
 use crate::{Id, OrderLine, TableLine, Weight};
 use coll_lex::{Lexer, ListBuf, PlainToken, TextBuf};
 use std::alloc::{AllocError, Global};
@@ -84,68 +84,4 @@ fn last_name(
     }
     let copy = TextBuf::copied(alloc, name)?;
     Ok(Some(copy))
-}
-
-// The weights of a character, which a text spells.
-fn plain_weights(
-    alloc: Global,
-    lexer: &Lexer,
-    own: char,
-    text: &str,
-) -> Result<Option<ListBuf<Weight>>, AllocError>
-    ensures read { IfOk result (λ read. IfSome read (λ weights.
-        kept_weights own (plain_reading lexer.now.special text.now).tokens ≡ Ok weights)) }
-    ensures some { IfOk result (λ read. IfSome read (λ weights. 0 < length (plain_reading lexer.now.special text.now).tokens)) }
-    ensures whole { IfOk result (λ read. IfSome read (λ weights. IsReadWhole lexer.now.special text.now)) }
-{
-    let mut weights = Vec::new(alloc);
-    let mut rest = text;
-    'operands: loop {
-        let Some((token, behind)) = lexer.plain_token(rest) else {
-            return Ok(None);
-        };
-        let Some(weight) = plain_operand(alloc, own, token)? else {
-            return Ok(None);
-        };
-        weights.push(weight)?;
-        if lexer.is_over(behind) {
-            weights.shrink_to_fit();
-            return Ok(Some(ListBuf::new(weights)));
-        }
-        let Some((PlainToken::Semicolon, later)) = lexer.plain_token(behind) else {
-            return Ok(None);
-        };
-        rest = later;
-    }
-}
-
-// The weight of an operand that is this token alone, on the line of a character. None where it is none, or a word but `IGNORE`.
-fn plain_operand(
-    alloc: Global,
-    own: char,
-    token: PlainToken<'_>,
-) -> Result<Option<Weight>, AllocError>
-    ensures { IfOk result (λ read. IfSome read (λ weight. kept_operand own (token_in token.entry ∷ []) ≡ Ok weight)) }
-{
-    match token {
-        PlainToken::Symbol(name) => {
-            let name = TextBuf::copied(alloc, name)?;
-            let weight = one_id(alloc, Id::Named(name))?;
-            Ok(Some(weight))
-        }
-        PlainToken::Char(c) => {
-            if c == own {
-                return Ok(Some(Weight::Own));
-            }
-            let weight = one_id(alloc, Id::Char(c))?;
-            Ok(Some(weight))
-        }
-        PlainToken::Word(word) => {
-            if word == "IGNORE" {
-                return Ok(Some(Weight::Ignore));
-            }
-            Ok(None)
-        }
-        PlainToken::Semicolon => Ok(None),
-    }
 }

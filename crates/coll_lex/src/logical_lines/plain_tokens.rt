@@ -8,15 +8,15 @@
 ghost use Rattle.std.specs.Prelude.{◌≡◌, ◌<◌, ◌==◌, ◌∷◌, ◌++◌, [], ◌+◌, length, false, true, chars, IsTrue, IsUtf8, None, Ok, Some, IfSome, IfNone};
 ghost use Rattle.std.specs.Bool.{OnTrue};
 ghost use Rattle.std.specs.List.{list_all};
-ghost use Rattle.coll_lex.specs.PlainTexts.{IsNext, IsOver, IsPlainLine, IsWholeWord, Spells, plain_reading, token_in};
-ghost use Rattle.coll_lex.specs.Runs.{is_graphic, is_keyword_byte};
-ghost use Rattle.coll_lex.specs.Tokens.{symbol_of};
+ghost use Rattle.coll_lex.specs.PlainStrings.{piece_in};
+ghost use Rattle.coll_lex.specs.PlainTexts.{IsNext, IsOver, IsPlainLine, IsWholeWord, plain_reading, token_in};
+ghost use Rattle.coll_lex.specs.Runs.{is_keyword_byte};
+ghost use Rattle.coll_lex.specs.Tokens.{token_of};
 
+use super::plain_strings::{PlainPiece, symbol_piece};
 use super::{Lexer, text_of};
 use crate::blanks::is_blank;
-use crate::directives::directive;
-use crate::limits::MOST_NAME_CHARS;
-use crate::names::code_point;
+use crate::directives::is_no_directive;
 use crate::scanning::{
     begins_comment, begins_with_separator, blanks_length, whole_symbol, word_length,
 };
@@ -36,20 +36,14 @@ pub enum PlainToken<'a> {
     Semicolon,
 }
 
-// The token of a symbol, by the text between its brackets. None where it is at fault.
-fn symbol_token(name: &str) -> Option<PlainToken<'_>>
-    requires some { 0 < length name.now }
-    requires graphic { list_all is_graphic name.now ≡ true }
-    ensures { IfSome result (λ token. Spells (symbol_of (chars name.now)) (token_in token)) }
+// The token of a symbol that stands for this.
+fn token_of(piece: PlainPiece<'_>) -> PlainToken<'_>
+    ensures { token_in result ≡ token_of (piece_in piece.entry) }
 {
-    if let Some(number) = code_point(name) {
-        let c = char::from_u32(number)?;
-        return Some(PlainToken::Char(c));
+    match piece {
+        PlainPiece::Name(name) => PlainToken::Symbol(name),
+        PlainPiece::Char(c) => PlainToken::Char(c),
     }
-    if name.len() > MOST_NAME_CHARS {
-        return None;
-    }
-    Some(PlainToken::Symbol(name))
 }
 
 // The word that a text begins with, and what follows it, where that is a separator or nothing.
@@ -119,7 +113,7 @@ impl Lexer {
             return None;
         }
         let bytes = without_return(line);
-        if directive(self.special, bytes).is_some() {
+        if !is_no_directive(self.special, bytes) {
             return None;
         }
         match text_of(bytes) {
@@ -133,8 +127,8 @@ impl Lexer {
         ensures { IfSome result (λ next. IsNext self.now.special text.now (token_in next.0) next.1.now) }
     {
         if let Some((name, rest)) = whole_symbol(self.special.escape, text) {
-            let token = symbol_token(name)?;
-            return Some((token, rest));
+            let piece = symbol_piece(name)?;
+            return Some((token_of(piece), rest));
         }
         if !begins_with_separator(self.special.escape, text.as_bytes()) {
             let (word, rest) = whole_word(self.special, text)?;
@@ -181,6 +175,7 @@ impl Lexer {
     }
 
     /// Counts a line that was read where it stands.
+    #[inline(always)]
     pub fn pass_line(&mut self)
         ensures { self.new ≡ dropped self.old }
     {

@@ -1,16 +1,17 @@
 use Rattle.std.proofs.Common.{sym}
 use Rattle.coll_lex.specs.PlainTexts.{token_in}
+use Rattle.coll_lex.specs.PlainStrings.{piece_in}
 use Rattle.coll_lex.proofs.PlainTextLemmas.{next_semicolon, next_symbol, next_word}
 use Rattle.coll_lex.proofs.RunLemmas.{plain_is_graphic, separator_cut}
 use Rattle.coll_lex.proofs.logical_lines.Lexer.plain_token.Goals as goal
 
-pub symbol_token-requires-clause-graphic : goal.symbol_token-requires-clause-graphic
-symbol_token-requires-clause-graphic c = plain_is_graphic c.self.inside.special.escape c.in-Some.name.now c.in-Some.ensures.plain
+pub symbol_piece-requires-clause-graphic : goal.symbol_piece-requires-clause-graphic
+symbol_piece-requires-clause-graphic c = plain_is_graphic c.self.inside.special.escape c.in-Some.name.now c.in-Some.ensures.plain
 
 pub returns-in-Some : goal.returns-in-Some
 returns-in-Some c =
     rw (← c.self.view_is)
-    (next_symbol c.self.inside.special c.self.inside.alloc c.args.text.now c.in-Some.name.now c.in-Some.rest.now (token_in c.in_ok-token.token) c.in-Some.ensures c.in_ok-token.ensures)
+    (next_symbol c.self.inside.special c.self.inside.alloc c.args.text.now c.in-Some.name.now c.in-Some.rest.now (piece_in c.in_ok-piece.piece) (token_in c.token_of.result) c.in-Some.ensures c.in_ok-piece.ensures c.token_of.ensures)
 
 pub returns-then-not-begins_with_separator : goal.returns-then-not-begins_with_separator
 returns-then-not-begins_with_separator c =

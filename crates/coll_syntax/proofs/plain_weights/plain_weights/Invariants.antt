@@ -2,7 +2,7 @@ use Rattle.std.proofs.Common.{length}
 use denote.Shadow.{shadow}
 use denote.Text.{Utf8}
 use Rattle.coll_syntax.proofs.PlainLineLemmas.{ReadsOn}
-use Rattle.coll_syntax.proofs.plain_lines.plain_weights.Given as goal
+use Rattle.coll_syntax.proofs.plain_weights.plain_weights.Given as goal
 
 abbrev pub invariant-operands : goal.invariant-operands
 invariant-operands l = record {

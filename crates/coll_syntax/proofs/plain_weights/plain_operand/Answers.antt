@@ -1,7 +1,7 @@
 use Rattle.std.proofs.Common.{◌≡◌, codes, refl, sym, ◌∙◌}
 use Rattle.std.proofs.lemmas.Slice.Eq.{bytes_eq-Decides}
 use Rattle.coll_lex.proofs.RunLemmas.{graphic_chars}
-use Rattle.coll_syntax.proofs.plain_lines.plain_operand.Goals as goal
+use Rattle.coll_syntax.proofs.plain_weights.plain_operand.Goals as goal
 
 pub returns-then-eq : goal.returns-then-eq
 returns-then-eq c =

@@ -1,0 +1,142 @@
+//! Weights of a character that are read token by token where they stand.
+//!
+//! A weight is mostly one name or the character itself, and for a few lines a string of names; each is read from the text, and only what
+//! is kept of it is made. What an operand means is that of `weight_lists`.
+
+ghost use Rattle.std.specs.Prelude.{◌≡◌, ◌<◌, [], ◌∷◌, length, chars, Ok, IfOk, IfSome};
+ghost use Rattle.coll_lex.specs.PlainStrings.{piece_in};
+ghost use Rattle.coll_lex.specs.PlainTexts.{IsReadWhole, plain_reading, token_in};
+ghost use Rattle.coll_syntax.specs.KeptLines.{kept_operand, kept_weights};
+ghost use Rattle.coll_syntax.specs.PlainWeights.{IsInside, IsOperand};
+ghost use Rattle.coll_syntax.specs.Weights.{piece_id};
+
+use crate::weight_lists::one_id;
+use crate::weights::MOST_WEIGHT_IDS;
+use crate::{Id, Weight};
+use coll_lex::{Lexer, ListBuf, PlainPiece, PlainToken, TextBuf};
+use std::alloc::{AllocError, Global};
+
+/// The weights of a character, which a text spells. None where a token of it has to be read otherwise.
+pub(crate) fn plain_weights(
+    alloc: Global,
+    lexer: &Lexer,
+    own: char,
+    text: &str,
+) -> Result<Option<ListBuf<Weight>>, AllocError>
+    ensures read { IfOk result (λ read. IfSome read (λ weights.
+        kept_weights own (plain_reading lexer.now.special text.now).tokens ≡ Ok weights)) }
+    ensures some { IfOk result (λ read. IfSome read (λ weights. 0 < length (plain_reading lexer.now.special text.now).tokens)) }
+    ensures whole { IfOk result (λ read. IfSome read (λ weights. IsReadWhole lexer.now.special text.now)) }
+{
+    let mut weights = Vec::new(alloc);
+    let mut rest = text;
+    'operands: loop {
+        let Some((weight, behind)) = plain_weight(alloc, lexer, own, rest)? else {
+            return Ok(None);
+        };
+        weights.push(weight)?;
+        if lexer.is_over(behind) {
+            weights.shrink_to_fit();
+            return Ok(Some(ListBuf::new(weights)));
+        }
+        let Some((PlainToken::Semicolon, later)) = lexer.plain_token(behind) else {
+            return Ok(None);
+        };
+        rest = later;
+    }
+}
+
+// The weight that a text begins with, and what follows it.
+fn plain_weight<'a>(
+    alloc: Global,
+    lexer: &Lexer,
+    own: char,
+    text: &'a str,
+) -> Result<Option<(Weight, &'a str)>, AllocError>
+    ensures { IfOk result (λ read. IfSome read (λ next. IsOperand own lexer.now.special text.now next.0 next.1.now)) }
+{
+    if let Some(inside) = lexer.plain_string(text) {
+        return plain_string(alloc, lexer, inside);
+    }
+    let Some((token, behind)) = lexer.plain_token(text) else {
+        return Ok(None);
+    };
+    match plain_operand(alloc, own, token)? {
+        Some(weight) => Ok(Some((weight, behind))),
+        None => Ok(None),
+    }
+}
+
+// The weight of a string, from its inside, and what follows it. None where it has no piece, or too many.
+fn plain_string<'a>(
+    alloc: Global,
+    lexer: &Lexer,
+    inside: &'a str,
+) -> Result<Option<(Weight, &'a str)>, AllocError>
+    ensures { IfOk result (λ read. IfSome read (λ next. IsInside lexer.now.special inside.now next.0 next.1.now)) }
+{
+    let mut ids = Vec::new(alloc);
+    let mut rest = inside;
+    'pieces: loop {
+        if let Some(behind) = lexer.past_string(rest) {
+            if ids.is_empty() {
+                return Ok(None);
+            }
+            ids.shrink_to_fit();
+            return Ok(Some((Weight::Names(ListBuf::new(ids)), behind)));
+        }
+        let Some((piece, later)) = lexer.plain_piece(rest) else {
+            return Ok(None);
+        };
+        if ids.len() == MOST_WEIGHT_IDS {
+            return Ok(None);
+        }
+        let id = plain_id(alloc, piece)?;
+        ids.push(id)?;
+        rest = later;
+    }
+}
+
+// The character or the name of a piece of a string. A name is a copy.
+fn plain_id(alloc: Global, piece: PlainPiece<'_>) -> Result<Id, AllocError>
+    ensures { IfOk result (λ id. id ≡ piece_id (piece_in piece.entry)) }
+{
+    match piece {
+        PlainPiece::Char(c) => Ok(Id::Char(c)),
+        PlainPiece::Name(name) => {
+            let name = TextBuf::copied(alloc, name)?;
+            Ok(Id::Named(name))
+        }
+    }
+}
+
+// The weight of an operand that is this token alone, on the line of a character. None where it is none, or a word but `IGNORE`.
+fn plain_operand(
+    alloc: Global,
+    own: char,
+    token: PlainToken<'_>,
+) -> Result<Option<Weight>, AllocError>
+    ensures { IfOk result (λ read. IfSome read (λ weight. kept_operand own (token_in token.entry ∷ []) ≡ Ok weight)) }
+{
+    match token {
+        PlainToken::Symbol(name) => {
+            let name = TextBuf::copied(alloc, name)?;
+            let weight = one_id(alloc, Id::Named(name))?;
+            Ok(Some(weight))
+        }
+        PlainToken::Char(c) => {
+            if c == own {
+                return Ok(Some(Weight::Own));
+            }
+            let weight = one_id(alloc, Id::Char(c))?;
+            Ok(Some(weight))
+        }
+        PlainToken::Word(word) => {
+            if word == "IGNORE" {
+                return Ok(Some(Weight::Ignore));
+            }
+            Ok(None)
+        }
+        PlainToken::Semicolon => Ok(None),
+    }
+}
