@@ -205,17 +205,13 @@ pub told : (b : Bool) (P : Type 0) → (b ≡ true → P) → OnTrue b P
 told true P h = h refl
 told false P h = tt
 
-ended_by : (a b : Bool) → b ≡ true → (a || b) ≡ true
-ended_by true b e = refl
-ended_by false b e = e
-
 pub whole_keyword : (special : Chars) (text word rest : List ℕ) → text ≡ word ++ rest → 0 < length word → list_all is_keyword_byte word ≡ true → is_keyword_byte special.comment ≡ false
-    → is_keyword_byte special.escape ≡ false → begins_with_separator special.escape rest ≡ true → IsWholeWord special text word rest
+    → is_keyword_byte special.escape ≡ false → (length rest == 0 || begins_with_separator special.escape rest) ≡ true → IsWholeWord special text word rest
 whole_keyword special text word rest is some h c e ended = record {
   is = is;
   some = some;
   plain = keyword_word special word h c e;
-  ended = ended_by (length rest == 0) (begins_with_separator special.escape rest) ended;
+  ended = ended;
 }
 
 -- where a line begins

@@ -46,9 +46,9 @@ is_blank_byte escape b = is_blank b && not (b == escape)
 abbrev pub begins_comment : Chars → ℕ → Bool
 begins_comment special b = (b == special.comment) && not (b == special.escape) && is_graphic b && not (b == less_than) && not (b == semicolon) && not (b == comma)
 
--- a small letter of ASCII or a hyphen, of which keywords are made
+-- a letter of ASCII or a hyphen, of which keywords are made
 abbrev pub is_keyword_byte : ℕ → Bool
-is_keyword_byte b = (nat_le 97 b && nat_le b 122) || (b == hyphen)
+is_keyword_byte b = (nat_le 97 b && nat_le b 122) || (nat_le 65 b && nat_le b 90) || (b == hyphen)
 
 -- a part that leaves the escapes at the end of the line as they are
 pub record TakesRun (special : Chars) (old : Scan) (text : List ℕ) (new : Scan) (rest : List ℕ) : Type 0 where

@@ -1,9 +1,11 @@
 -- Weights of the line of a character, which are read where they stand.
-use Rattle.std.proofs.Common.{◌≡◌, ℕ, ◌<◌, ◌≤◌, ◌==◌, nat_le, true, false, List, [], ◌∷◌, ◌++◌, length, map, chars, Ok, refl, ap, sym, ◌∙◌, arith}
+use Rattle.std.proofs.Common.{◌≡◌, ℕ, ◌<◌, ◌≤◌, ◌==◌, nat_le, true, false, List, [], ◌∷◌, ◌++◌, length, map, chars, codes, Ok, refl, ap, sym, ◌∙◌, arith}
 use Rattle.std.proofs.lemmas.Bool.Decides.{nat_tests}
 use Rattle.std.proofs.lemmas.List.{length-map, map-append}
 use Rattle.coll_lex.specs.Marked.{is_joined}
 use Rattle.coll_lex.specs.PlainStrings.{BeginsString, EndsString, IsNextPiece, string_reading}
+use Rattle.coll_lex.specs.PlainTexts.{IsNext}
+use Rattle.coll_lex.proofs.RunLemmas.{graphic_chars}
 use Rattle.coll_lex.specs.declared.tokens.Chars.{Chars}
 use Rattle.coll_lex.specs.declared.tokens.Piece.{Piece}
 use Rattle.coll_lex.specs.declared.tokens.Token.TheVariants as token
@@ -11,7 +13,7 @@ use Rattle.coll_syntax.specs.PlainWeights.{IsInside, IsOperand}
 use Rattle.coll_syntax.specs.Weights.{piece_id, string_weight}
 use Rattle.coll_syntax.specs.declared.identifiers.Id.{Id}
 use Rattle.coll_syntax.specs.declared.weights.Weight.{Weight}
-use Rattle.coll_syntax.specs.declared.weights.Weight.TheVariants.{Names}
+use Rattle.coll_syntax.specs.declared.weights.Weight.TheVariants.{Ignore, Names}
 
 -- these pieces are read of the inside of a string, and what is left has the others
 pub record ReadsPieces (special : Chars) (inside : List ℕ) (pieces : List Piece) (rest : List ℕ) : Type 0 where
@@ -61,3 +63,6 @@ module _ (special : Chars) where
       let begun = b.shorter in
       let ended = h.1.shorter in
       (token.Text h.0, record { reads = b.reads ∙ h.1.reads; ends = b.ends ∙ h.1.ends; shorter = omega (arith, begun, ended) }, h.2)
+
+  pub ignored_operand : (own : ℕ) (text rest : List ℕ) → IsNext special text (token.Word (chars (codes "IGNORE"))) rest → IsOperand own special text Ignore rest
+  ignored_operand own text rest n = (token.Word (chars (codes "IGNORE")), n, rw (graphic_chars (codes "IGNORE") refl) refl)

@@ -58,6 +58,9 @@ fn plain_weight<'a>(
     if let Some(inside) = lexer.plain_string(text) {
         return plain_string(alloc, lexer, inside);
     }
+    if let Some(behind) = lexer.past_keyword(b"IGNORE", text) {
+        return Ok(Some((Weight::Ignore, behind)));
+    }
     let Some((token, behind)) = lexer.plain_token(text) else {
         return Ok(None);
     };
@@ -110,7 +113,7 @@ fn plain_id(alloc: Global, piece: PlainPiece<'_>) -> Result<Id, AllocError>
     }
 }
 
-// The weight of an operand that is this token alone, on the line of a character. None where it is none, or a word but `IGNORE`.
+// The weight of an operand that is this token alone, on the line of a character. None where it is none, or a word.
 fn plain_operand(
     alloc: Global,
     own: char,
@@ -131,12 +134,6 @@ fn plain_operand(
             let weight = one_id(alloc, Id::Char(c))?;
             Ok(Some(weight))
         }
-        PlainToken::Word(word) => {
-            if word == "IGNORE" {
-                return Ok(Some(Weight::Ignore));
-            }
-            Ok(None)
-        }
-        PlainToken::Semicolon => Ok(None),
+        PlainToken::Word(_) | PlainToken::Semicolon => Ok(None),
     }
 }

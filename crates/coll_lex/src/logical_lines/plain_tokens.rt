@@ -5,12 +5,12 @@
 //! is left to `feed`, which takes the line from its beginning. What a token is isn't stated here: each is that of the reading, proved
 //! from the moves of the scan.
 
-ghost use Rattle.std.specs.Prelude.{◌≡◌, ◌<◌, ◌==◌, ◌∷◌, ◌++◌, [], ◌+◌, length, false, true, chars, IsTrue, IsUtf8, None, Ok, Some, IfSome, IfNone};
+ghost use Rattle.std.specs.Prelude.{◌≡◌, ◌<◌, ◌==◌, ◌||◌, ◌∷◌, ◌++◌, [], ◌+◌, length, false, true, chars, IsTrue, IsUtf8, None, Ok, Some, IfSome, IfNone};
 ghost use Rattle.std.specs.Bool.{OnTrue};
 ghost use Rattle.std.specs.List.{list_all};
 ghost use Rattle.coll_lex.specs.PlainStrings.{piece_in};
 ghost use Rattle.coll_lex.specs.PlainTexts.{IsNext, IsOver, IsPlainLine, IsWholeWord, plain_reading, token_in};
-ghost use Rattle.coll_lex.specs.Runs.{is_keyword_byte};
+ghost use Rattle.coll_lex.specs.Runs.{begins_with_separator, is_keyword_byte};
 ghost use Rattle.coll_lex.specs.Tokens.{token_of};
 
 use super::plain_strings::{PlainPiece, symbol_piece};
@@ -55,7 +55,7 @@ fn whole_word(special: Chars, text: &str) -> Option<(&str, &str)>
         return None;
     }
     let (word, rest) = text.split_at(length);
-    if rest.is_empty() || begins_with_separator(special.escape, rest.as_bytes()) {
+    if ends_word(special.escape, rest) {
         Some((word, rest))
     } else {
         None
@@ -66,7 +66,7 @@ fn whole_word(special: Chars, text: &str) -> Option<(&str, &str)>
 fn is_in_keyword(c: char) -> bool
     ensures { result ≡ is_keyword_byte c }
 {
-    ('a' <= c && c <= 'z') || c == '-'
+    ('a' <= c && c <= 'z') || ('A' <= c && c <= 'Z') || c == '-'
 }
 
 // What follows a keyword, where a text begins with it.
@@ -81,7 +81,14 @@ fn behind_keyword<'a>(word: &[u8], text: &'a str) -> Option<&'a str>
     }
 }
 
-// What follows a keyword, where a text begins with it, and a separator comes after it.
+// Whether a word ends before this text.
+fn ends_word(escape: char, rest: &str) -> bool
+    ensures { result ≡ (length rest.now == 0 || begins_with_separator escape rest.now) }
+{
+    rest.is_empty() || begins_with_separator(escape, rest.as_bytes())
+}
+
+// What follows a keyword, where a text begins with it, and a separator or nothing comes after it.
 fn past_keyword<'a>(special: Chars, word: &[u8], text: &'a str) -> Option<&'a str>
     requires word { IsTrue (list_all is_keyword_byte word.now) }
     requires some { 0 < length word.now }
@@ -91,7 +98,7 @@ fn past_keyword<'a>(special: Chars, word: &[u8], text: &'a str) -> Option<&'a st
     if is_in_keyword(special.comment) || is_in_keyword(special.escape) {
         return None;
     }
-    if begins_with_separator(special.escape, rest.as_bytes()) {
+    if ends_word(special.escape, rest) {
         Some(rest)
     } else {
         None
