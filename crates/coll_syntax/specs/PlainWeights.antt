@@ -1,5 +1,5 @@
 -- Weights of the line of a character, which are read where they stand.
-use Rattle.std.specs.Prelude.{◌≡◌, ◌<◌, ℕ, List, [], ◌∷◌, length, chars, Ok}
+use Rattle.std.specs.Prelude.{◌≡◌, ◌<◌, ℕ, List, [], ◌∷◌, ◌++◌, length, chars, Ok}
 use Rattle.coll_lex.specs.Marked.{is_joined}
 use Rattle.coll_lex.specs.PlainStrings.{string_reading}
 use Rattle.coll_lex.specs.PlainTexts.{IsNext, plain_reading}
@@ -15,6 +15,10 @@ use Rattle.coll_syntax.specs.declared.weights.Weight.{Weight}
 -- a text begins with a token that is an operand of this weight on the line of the character, and the rest follows
 abbrev pub IsOperand : (own : ℕ) → Chars → (text : List ℕ) → Weight → (rest : List ℕ) → Type 0
 IsOperand own special text weight rest = (t : Token) × IsNext special text t rest × (kept_operand own (t ∷ []) ≡ Ok weight)
+
+-- the weight of such an operand stands behind those before it
+abbrev pub PutsOperand : (own : ℕ) → Chars → (text : List ℕ) → (before after : List Weight) → (rest : List ℕ) → Type 0
+PutsOperand own special text before after rest = (weight : Weight) × IsOperand own special text weight rest × (after ≡ before ++ weight ∷ [])
 
 -- a string whose inside begins here has these pieces, and the rest follows it
 pub record HasPieces (special : Chars) (inside : List ℕ) (pieces : List Piece) (rest : List ℕ) : Type 0 where

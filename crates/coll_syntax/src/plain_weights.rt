@@ -7,7 +7,7 @@ ghost use Rattle.std.specs.Prelude.{◌≡◌, ◌<◌, [], ◌∷◌, length, c
 ghost use Rattle.coll_lex.specs.PlainStrings.{piece_in};
 ghost use Rattle.coll_lex.specs.PlainTexts.{IsReadWhole, plain_reading, token_in};
 ghost use Rattle.coll_syntax.specs.KeptLines.{kept_operand, kept_weights};
-ghost use Rattle.coll_syntax.specs.PlainWeights.{IsInside, IsOperand};
+ghost use Rattle.coll_syntax.specs.PlainWeights.{IsInside, PutsOperand};
 ghost use Rattle.coll_syntax.specs.Weights.{piece_id};
 
 use crate::weight_lists::one_id;
@@ -31,10 +31,9 @@ pub(crate) fn plain_weights(
     let mut weights = Vec::new(alloc);
     let mut rest = text;
     'operands: loop {
-        let Some((weight, behind)) = plain_weight(alloc, lexer, own, rest)? else {
+        let Some(behind) = put_weight(alloc, lexer, own, rest, &mut weights)? else {
             return Ok(None);
         };
-        weights.push(weight)?;
         if lexer.is_over(behind) {
             weights.shrink_to_fit();
             return Ok(Some(ListBuf::new(weights)));
@@ -46,28 +45,37 @@ pub(crate) fn plain_weights(
     }
 }
 
-// The weight that a text begins with, and what follows it.
-fn plain_weight<'a>(
+// Puts the weight that a text begins with at the end of a list, and answers what follows it.
+#[inline(always)]
+fn put_weight<'a>(
     alloc: Global,
     lexer: &Lexer,
     own: char,
     text: &'a str,
-) -> Result<Option<(Weight, &'a str)>, AllocError>
-    ensures { IfOk result (λ read. IfSome read (λ next. IsOperand own lexer.now.special text.now next.0 next.1.now)) }
+    weights: &mut Vec<Weight>,
+) -> Result<Option<&'a str>, AllocError>
+    ensures { IfOk result (λ put. IfSome put (λ rest.
+        PutsOperand own lexer.now.special text.now weights.old.items weights.new.items rest.now)) }
 {
     if let Some(inside) = lexer.plain_string(text) {
-        return plain_string(alloc, lexer, inside);
+        let Some((weight, behind)) = plain_string(alloc, lexer, inside)? else {
+            return Ok(None);
+        };
+        weights.push(weight)?;
+        return Ok(Some(behind));
     }
     if let Some(behind) = lexer.past_keyword(b"IGNORE", text) {
-        return Ok(Some((Weight::Ignore, behind)));
+        weights.push(Weight::Ignore)?;
+        return Ok(Some(behind));
     }
     let Some((token, behind)) = lexer.plain_token(text) else {
         return Ok(None);
     };
-    match plain_operand(alloc, own, token)? {
-        Some(weight) => Ok(Some((weight, behind))),
-        None => Ok(None),
-    }
+    let Some(weight) = plain_operand(alloc, own, token)? else {
+        return Ok(None);
+    };
+    weights.push(weight)?;
+    Ok(Some(behind))
 }
 
 // The weight of a string, from its inside, and what follows it. None where it has no piece, or too many.
