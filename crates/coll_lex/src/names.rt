@@ -8,6 +8,7 @@ ghost use Rattle.std.specs.List.{list_all};
 ghost use Rattle.coll_lex.specs.Blanks.{is_blank};
 ghost use Rattle.coll_lex.specs.Limits.{most_name_chars};
 ghost use Rattle.coll_lex.specs.Names.{is_proper_name};
+ghost use Rattle.coll_lex.specs.Runs.{is_graphic};
 ghost use Rattle.coll_lex.specs.Tokens.{is_name as has_only_name_chars, code_point_of, hex_number, is_hex_digit, is_control};
 
 use crate::blanks::is_blank;
@@ -41,10 +42,20 @@ fn is_barred(c: char) -> bool
 pub(crate) fn has_name_chars(text: &str) -> bool
     ensures { result ≡ has_only_name_chars (chars text.now) }
 {
+    if text.len() <= MOST_NAME_CHARS && are_graphic(text.as_bytes()) {
+        return true;
+    }
     if is_long(text) {
         return false;
     }
     text.chars().all(|c| !is_barred(c))
+}
+
+// Whether all of these bytes are characters of ASCII that are seen: nearly all names have no others, and need no other look.
+fn are_graphic(bytes: &[u8]) -> bool
+    ensures { result ≡ list_all is_graphic bytes.now }
+{
+    bytes.iter().all(|byte| b' ' < *byte && *byte < 0x7f)
 }
 
 // Whether a text has too many characters for a name. They are counted only where its bytes are more than that.
