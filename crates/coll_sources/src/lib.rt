@@ -11,6 +11,7 @@
 //! - `conditions`: lines that count only where a name is defined;
 //! - `bases`: whether a text that a tailoring copies is the table that is tailored;
 //! - `operands`, `weights`, `ranges` and `grammar`: the tokens of a line, read into what it says;
+//! - `plain_orders`: most order lines, read where they stand;
 //! - `names`: names that are looked up;
 //! - `readers`: text after text, to the end (`Readers`);
 //! - `adjustments`: what is told of what was changed (`Adjustments`, `Reports`).
@@ -23,6 +24,7 @@ mod grammar;
 mod names;
 mod operands;
 mod places;
+mod plain_orders;
 mod ranges;
 mod readers;
 mod source_faults;

@@ -9,6 +9,9 @@
 //! read in. Its `copy` is kept as a line (`Tailoring::Base`).
 //!
 //! Only the category LC_COLLATE is looked at. A line under a condition that doesn't hold counts for nothing, but it has to be a line.
+//!
+//! What is read stays where it is: the text that is read on in is taken once for all its lines up to the next copy. Most lines of a
+//! source are plain order lines, and these are read where they stand (`plain_orders`), without a list of tokens.
 
 ghost use Rattle.std.specs.Prelude.{◌≡◌, IfOk};
 ghost use Rattle.coll_lex.specs.Names.{AreTokens};
@@ -19,6 +22,7 @@ use crate::conditions::{ConditionWord, Conditions, condition_word};
 use crate::grammar::said;
 use crate::names::{all_names, only_one, put_name};
 use crate::operands::Unread;
+use crate::plain_orders::plain_order;
 use crate::texts::{line_at, text_of};
 use crate::{
     Adjustment, Lost, Report, Said, SourceCause, SourceFault, SourceLine, SourcePlace, Tailoring,
@@ -26,7 +30,7 @@ use crate::{
 use coll_devices::{LineReader, ReadStop, Source};
 use coll_lex::{LexFault, Lexer, Line, MOST_LINES, Piece, TextBuf, Token};
 use coll_lookups::HashKeys;
-use coll_syntax::{Id, SyntaxFault, characters, copied_name, id_of, is_word};
+use coll_syntax::{Id, OrderLine, SyntaxFault, characters, copied_name, id_of, is_word};
 use coll_texts::{LoadCause, LoadFault};
 use indexmap::IndexSet;
 use std::alloc::{AllocError, Global};
@@ -74,6 +78,8 @@ enum Next {
     Ended,
     // It completes no line that has a token.
     Nothing,
+    // It completes a line that counts, which was read where it stands.
+    Read(SourceLine),
     // It completes a line.
     Whole(Line),
 }
@@ -88,9 +94,18 @@ enum Heeded {
     Counts,
 }
 
-// What is done behind a line.
+// Where a text is read no further.
+#[derive(Clone, Copy)]
+enum Halt {
+    // The category has ended.
+    End,
+    // The text of this number is copied here.
+    Copy(SourcePlace, usize),
+}
+
+// What is done behind the lines of a text.
 enum Step {
-    // The next line is read, of whichever text.
+    // Lines are read, of whichever text.
     Line,
     // A text is wanted.
     Wants,
@@ -401,7 +416,7 @@ impl SourceReader {
         }
     }
 
-    // Reads line after line, until a text is wanted or the source has ended.
+    // Reads text after text, until one is wanted or the source has ended.
     fn read_on(&mut self) -> Result<(), SourceFault> {
         for _ in 0..u64::MAX {
             match self.step()? {
@@ -412,7 +427,7 @@ impl SourceReader {
         Ok(())
     }
 
-    // Reads a line of the innermost text.
+    // Reads on in the innermost text.
     fn step(&mut self) -> Result<Step, SourceFault> {
         match self.frames.pop() {
             Some(frame) => self.step_in(frame),
@@ -420,10 +435,17 @@ impl SourceReader {
         }
     }
 
-    // Reads a line of a text.
+    // Reads on in a text, up to where it halts.
     fn step_in(&mut self, mut frame: Frame) -> Result<Step, SourceFault> {
-        match self.next_in(&mut frame) {
-            Ok(next) => self.take_next(frame, next),
+        match self.read_in(&mut frame) {
+            Ok(Halt::End) => {
+                drop(frame);
+                Ok(Step::Line)
+            }
+            Ok(Halt::Copy(place, text)) => {
+                self.frames.push(frame)?;
+                self.copy(place, text)
+            }
             Err(fault) => {
                 drop(frame);
                 Err(fault)
@@ -431,29 +453,34 @@ impl SourceReader {
         }
     }
 
+    // Reads line after line of a text, up to where it halts.
+    fn read_in(&mut self, frame: &mut Frame) -> Result<Halt, SourceFault> {
+        for _ in 0..u64::MAX {
+            let next = self.next_in(frame)?;
+            if let Some(halt) = self.take_next(frame, next)? {
+                return Ok(halt);
+            }
+        }
+        Err(early_end(frame))
+    }
+
     // Takes what the next physical line of a text comes to.
-    fn take_next(&mut self, frame: Frame, next: Next) -> Result<Step, SourceFault>
+    fn take_next(&mut self, frame: &mut Frame, next: Next) -> Result<Option<Halt>, SourceFault>
         requires { HasTokens next }
     {
         match next {
-            Next::Ended => {
-                let fault = early_end(&frame);
-                drop(frame);
-                Err(fault)
+            Next::Ended => Err(early_end(frame)),
+            Next::Nothing => Ok(None),
+            Next::Read(line) => {
+                self.lines.push(line)?;
+                Ok(None)
             }
-            Next::Nothing => self.back(frame),
             Next::Whole(line) => {
-                let step = self.take(frame, &line);
+                let halt = self.take(frame, &line);
                 drop(line);
-                step
+                halt
             }
         }
-    }
-
-    // Goes on with a text.
-    fn back(&mut self, frame: Frame) -> Result<Step, SourceFault> {
-        self.frames.push(frame)?;
-        Ok(Step::Line)
     }
 
     // What the next physical line of a text comes to. It is counted.
@@ -475,7 +502,7 @@ impl SourceReader {
         self.bytes = self.bytes.saturating_add(line.len()).saturating_add(1);
         frame.at = behind;
         if frame.begun {
-            return fed(frame, place, line);
+            return within(self.alloc, frame, place, line);
         }
         match frame.lexer.outside(line) {
             Ok(begins) => {
@@ -487,27 +514,17 @@ impl SourceReader {
     }
 
     // Takes a line: a condition, the end of the category, or what counts if its conditions hold.
-    fn take(&mut self, mut frame: Frame, line: &Line) -> Result<Step, SourceFault>
+    fn take(&mut self, frame: &mut Frame, line: &Line) -> Result<Option<Halt>, SourceFault>
         requires { AreTokens line.now.tokens }
     {
         let place = SourcePlace {
             text: frame.text,
             line: line.number,
         };
-        match self.heed(&mut frame, place, line.tokens.get()) {
-            Ok(Heeded::Counts) => {
-                self.frames.push(frame)?;
-                self.take_counting(place, line)
-            }
-            Ok(Heeded::Passed) => self.back(frame),
-            Ok(Heeded::Ends) => {
-                drop(frame);
-                Ok(Step::Line)
-            }
-            Err(fault) => {
-                drop(frame);
-                Err(fault)
-            }
+        match self.heed(frame, place, line.tokens.get())? {
+            Heeded::Counts => self.take_counting(place, line),
+            Heeded::Passed => Ok(None),
+            Heeded::Ends => Ok(Some(Halt::End)),
         }
     }
 
@@ -534,14 +551,18 @@ impl SourceReader {
     }
 
     // Takes a line that counts.
-    fn take_counting(&mut self, place: SourcePlace, line: &Line) -> Result<Step, SourceFault>
+    fn take_counting(
+        &mut self,
+        place: SourcePlace,
+        line: &Line,
+    ) -> Result<Option<Halt>, SourceFault>
         requires { AreTokens line.now.tokens }
     {
         match copied(line.tokens.get()) {
-            Some(pieces) => self.copy(place, pieces),
+            Some(pieces) => Ok(Some(Halt::Copy(place, self.text_of_copy(place, pieces)?))),
             None => {
                 self.keep(place, line)?;
-                Ok(Step::Line)
+                Ok(None)
             }
         }
     }
@@ -596,9 +617,8 @@ impl SourceReader {
         Ok(true)
     }
 
-    // Copies a text: it is followed, or wanted.
-    fn copy(&mut self, place: SourcePlace, pieces: &[Piece]) -> Result<Step, SourceFault> {
-        let text = self.text_of_copy(place, pieces)?;
+    // Copies the text of a number: it is followed, or wanted.
+    fn copy(&mut self, place: SourcePlace, text: usize) -> Result<Step, SourceFault> {
         if self.texts.get(text).is_some_and(|held| held.is_open) {
             return Err(place.fault(SourceCause::CopyOfItself));
         }
@@ -660,7 +680,38 @@ fn place_in(frame: &Frame) -> SourcePlace {
     }
 }
 
-// What a physical line of the category comes to.
+// What a physical line of the category comes to: one that counts is read where it stands, if it can be.
+fn within(
+    alloc: Global,
+    frame: &mut Frame,
+    place: SourcePlace,
+    line: &[u8],
+) -> Result<Next, SourceFault>
+    ensures { IfOk result (λ next. HasTokens next) }
+{
+    if !frame.conditions.count() {
+        return fed(frame, place, line);
+    }
+    match read_plain(alloc, &frame.lexer, line) {
+        Ok(Some(order)) => {
+            frame.lexer.pass_line();
+            let said = Said::Order(order);
+            Ok(Next::Read(SourceLine { place, said }))
+        }
+        Ok(None) => fed(frame, place, line),
+        Err(_) => Err(place.load_fault(LoadCause::OutOfMemory)),
+    }
+}
+
+// The order line that a physical line is, if it is read where it stands.
+fn read_plain(alloc: Global, lexer: &Lexer, line: &[u8]) -> Result<Option<OrderLine>, AllocError> {
+    match lexer.plain_text(line) {
+        Some(text) => plain_order(alloc, lexer, text),
+        None => Ok(None),
+    }
+}
+
+// What a physical line of the category comes to, token by token.
 fn fed(frame: &mut Frame, place: SourcePlace, line: &[u8]) -> Result<Next, SourceFault>
     ensures { IfOk result (λ next. HasTokens next) }
 {
