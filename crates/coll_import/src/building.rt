@@ -16,7 +16,7 @@ use crate::proper_lines::{section_line, table_line};
 use crate::rules::common_rules;
 use coll_lex::TextBuf;
 use coll_lookups::HashKeys;
-use coll_meanings::{Meanings, SourceStatement, WeightLookUp, lose_statement};
+use coll_meanings::{Meanings, PlacedLookUp, SourceStatement, lose_statement};
 use coll_sources::{Report, SourceFault, SourceLine, SourcePlace};
 use coll_syntax::{Rules, Statement, TableLine};
 use coll_table::Table;
@@ -135,7 +135,7 @@ fn fill_order(
     ensures { OnOk result (IsWellFormed (table_of builder.new)) }
 {
     let (lines, placed) = order.into_parts();
-    let look_up = WeightLookUp {
+    let look_up = PlacedLookUp {
         meanings,
         placed: &placed,
         levels,
@@ -175,7 +175,7 @@ fn start(builder: &mut TableBuilder, rules: Rules) -> Result<(), SourceFault> {
 // Places all of this.
 fn place_all(
     builder: &mut TableBuilder,
-    look_up: &WeightLookUp<'_>,
+    look_up: &PlacedLookUp<'_>,
     lines: Vec<OrderedLine>,
     report: &mut Report,
 ) -> Result<(), SourceFault> {

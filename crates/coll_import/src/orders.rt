@@ -1,10 +1,11 @@
 //! The order of a table that is made of a source: its sections and entries, in their order, no identifier placed twice.
 
 use coll_lex::TextBuf;
-use coll_lookups::{HashKeys, IdSet};
+use coll_lookups::{HashKeys, WordKeys};
+use coll_meanings::{Found, Placed};
 use coll_nodes::{MOST_ENTRIES, MOST_SECTIONS};
 use coll_sources::{Adjustment, Lost, Report, SourceFault, SourcePlace};
-use coll_syntax::{Id, OrderLine};
+use coll_syntax::OrderLine;
 use coll_texts::LoadCause;
 use indexmap::IndexSet;
 use std::alloc::{AllocError, Global};
@@ -29,9 +30,9 @@ pub(crate) struct OrderedLine {
 #[derive(Drop)]
 pub(crate) struct Order {
     lines: Vec<OrderedLine>,
-    placed: IdSet,
+    placed: Placed,
     // The names of the sections that have one.
-    sections: IndexSet<String, HashKeys>,
+    sections: IndexSet<String, WordKeys>,
     entries: usize,
     alloc: Global,
 }
@@ -41,8 +42,8 @@ impl Order {
     pub(crate) fn new(alloc: Global, keys: HashKeys) -> Order {
         Order {
             lines: Vec::new(alloc),
-            placed: IdSet::new(alloc, keys),
-            sections: IndexSet::with_hasher(alloc, keys),
+            placed: Placed::new(alloc, keys),
+            sections: IndexSet::with_hasher(alloc, WordKeys::new(keys)),
             entries: 0,
             alloc,
         }
@@ -53,8 +54,8 @@ impl Order {
         self.entries == 0
     }
 
-    /// What stands in it, and which identifiers are placed.
-    pub(crate) fn into_parts(self) -> (Vec<OrderedLine>, IdSet) {
+    /// What stands in it, and what it places.
+    pub(crate) fn into_parts(self) -> (Vec<OrderedLine>, Placed) {
         let Order {
             lines,
             placed,
@@ -142,38 +143,38 @@ impl Order {
         TextBuf::copied(self.alloc, "section")
     }
 
-    /// Puts an entry behind all that stands there, unless its identifier is placed already.
+    /// Puts an entry behind all that stands there, unless its identifier, of which this was found, is placed already.
     pub(crate) fn put(
         &mut self,
         place: SourcePlace,
         line: OrderLine,
+        found: Found,
         report: &mut Report,
     ) -> Result<(), SourceFault> {
-        if self.placed.contains(&line.id) {
-            let OrderLine { id, weights } = line;
-            drop(weights);
-            return report.lose(Adjustment::PlacedTwice, place, Lost::Id(id));
-        }
-        match self.know_entry(place, &line.id) {
-            Ok(()) => Ok(
-                self.lines.push(OrderedLine {
-                    place,
-                    ordered: Ordered::Entry(line),
-                })?,
-            ),
-            Err(fault) => {
+        match self.placed.put(found) {
+            Ok(true) => self.put_entry(place, line),
+            Ok(false) => {
+                let OrderLine { id, weights } = line;
+                drop(weights);
+                report.lose(Adjustment::PlacedTwice, place, Lost::Id(id))
+            }
+            Err(error) => {
                 drop(line);
-                Err(fault)
+                Err(SourceFault::from(error))
             }
         }
     }
 
-    // Counts an entry, and notes its identifier.
-    fn know_entry(&mut self, place: SourcePlace, id: &Id) -> Result<(), SourceFault> {
+    // Counts an entry, and puts it behind all that stands there.
+    fn put_entry(&mut self, place: SourcePlace, line: OrderLine) -> Result<(), SourceFault> {
         if self.entries >= MOST_ENTRIES {
+            drop(line);
             return Err(place.load_fault(LoadCause::Full));
         }
-        self.placed.insert(id)?;
+        self.lines.push(OrderedLine {
+            place,
+            ordered: Ordered::Entry(line),
+        })?;
         self.entries += 1;
         Ok(())
     }

@@ -1,9 +1,14 @@
 //! Order line after order line, into the order of a table.
+//!
+//! The identifier of a line is looked up once: what is found of it tells what it stands for, whether it is declared, whether it is a
+//! symbol, and whether it is placed already.
 
 use crate::orders::Order;
 use coll_lex::TextBuf;
 use coll_lookups::HashKeys;
-use coll_meanings::{Ellipses, Meanings, OrderLines, put_line, put_range, without_symbol_weights};
+use coll_meanings::{
+    Ellipses, Found, Meanings, OrderLines, put_before, put_range, without_symbol_weights,
+};
 use coll_sources::{Adjustment, Report, Said, SourceFault, SourceLine, SourcePlace};
 use coll_syntax::{Id, OrderLine, SyntaxFault};
 use coll_texts::LoadCause;
@@ -151,33 +156,74 @@ impl Placing {
         line: OrderLine,
         report: &mut Report,
     ) -> Result<(), SourceFault> {
-        let line = self.meanings.meant(line)?;
-        put_line(self, place, line, report)
+        match self.meanings.found(&line.id) {
+            Found::Second(_) => {
+                let line = self.meanings.meant(line)?;
+                let found = self.meanings.found(&line.id);
+                self.order_found(place, line, found, report)
+            }
+            found => self.order_found(place, line, found, report),
+        }
     }
 
-    // Opens an order if none is open, and declares what is placed there, if it isn't declared.
-    fn open_for(
+    // An order line of an identifier that stands for itself, of which this was found.
+    fn order_found(
+        &mut self,
+        place: SourcePlace,
+        line: OrderLine,
+        found: Found,
+        report: &mut Report,
+    ) -> Result<(), SourceFault> {
+        match put_before(self, &line.id, report) {
+            Ok(()) => self.put_found(place, line, found, report),
+            Err(fault) => {
+                drop(line);
+                Err(fault)
+            }
+        }
+    }
+
+    // Puts an order line of an identifier of which this was found, in an order that is open from now on.
+    fn put_found(
+        &mut self,
+        place: SourcePlace,
+        line: OrderLine,
+        found: Found,
+        report: &mut Report,
+    ) -> Result<(), SourceFault> {
+        match self.declared(place, &line.id, found, report) {
+            Ok(Found::Symbol(number)) => {
+                let line = without_symbol_weights(&self.meanings, place, line, report)?;
+                self.order.put(place, line, Found::Symbol(number), report)
+            }
+            Ok(found) => self.order.put(place, line, found, report),
+            Err(fault) => {
+                drop(line);
+                Err(fault)
+            }
+        }
+    }
+
+    // What is found of an identifier, of which this was found, once it is declared: as a symbol, if it is a name that isn't yet. An order
+    // is open from now on.
+    fn declared(
         &mut self,
         place: SourcePlace,
         id: &Id,
+        found: Found,
         report: &mut Report,
-    ) -> Result<(), SourceFault> {
+    ) -> Result<Found, SourceFault> {
         if !self.open {
             report.count(Adjustment::OrderStartPut, place)?;
             self.open = true;
         }
-        self.meanings.declare_placed(place, id, report)
-    }
-
-    // Places what an order line has. A symbol has no weights.
-    fn place(
-        &mut self,
-        place: SourcePlace,
-        line: OrderLine,
-        report: &mut Report,
-    ) -> Result<(), SourceFault> {
-        let line = without_symbol_weights(&self.meanings, place, line, report)?;
-        self.order.put(place, line, report)
+        match found {
+            Found::Unknown => {
+                self.meanings.declare_placed(place, id, report)?;
+                Ok(self.meanings.found(id))
+            }
+            _ => Ok(found),
+        }
     }
 }
 
@@ -192,12 +238,7 @@ impl OrderLines for Placing {
         line: OrderLine,
         report: &mut Report,
     ) -> Result<(), SourceFault> {
-        match self.open_for(place, &line.id, report) {
-            Ok(()) => self.place(place, line, report),
-            Err(fault) => {
-                drop(line);
-                Err(fault)
-            }
-        }
+        let found = self.meanings.found(&line.id);
+        self.put_found(place, line, found, report)
     }
 }

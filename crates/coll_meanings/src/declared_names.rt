@@ -11,6 +11,7 @@
 //! the names and not in them, so that meanings over none have nothing of a table.
 
 use crate::SourceStatement;
+use crate::placed::Found;
 use coll_lex::{TextBuf, is_name};
 use coll_lookups::{HashKeys, WordKeys};
 use coll_nodes::{DeclaredItem, MOST_DECLARATIONS};
@@ -41,6 +42,16 @@ struct Known {
     meaning: Meaning,
     // Whether the table that is tailored declares it, and no line of the source has done so yet.
     by_table: bool,
+}
+
+impl Known {
+    // What has declared the name.
+    fn taken(&self) -> Taken {
+        Taken {
+            by_table: self.by_table,
+            is_symbol: matches!(self.meaning, Meaning::Symbol),
+        }
+    }
 }
 
 // What has declared a name.
@@ -119,6 +130,27 @@ impl DeclaredNames {
                 None => is_symbol_of(table, id),
             },
             Id::Char(_) | Id::Undefined => false,
+        }
+    }
+
+    /// What is found of an identifier here, whatever a table declares.
+    pub(crate) fn found(&self, id: &Id) -> Found {
+        match id {
+            Id::Char(c) => Found::Char(*c),
+            Id::Named(name) => self.found_name(name.get()),
+            Id::Undefined => Found::Undefined,
+        }
+    }
+
+    // What is found of a name here.
+    fn found_name(&self, name: &str) -> Found {
+        let Some((number, _, known)) = self.names.get_full(name) else {
+            return Found::Unknown;
+        };
+        match known.meaning {
+            Meaning::Symbol => Found::Symbol(number),
+            Meaning::Element => Found::Element(number),
+            Meaning::Other(_) => Found::Second(number),
         }
     }
 
@@ -245,11 +277,61 @@ impl DeclaredNames {
         name: &TextBuf,
         report: &mut Report,
     ) -> Result<(), SourceFault> {
+        if table.is_none() && self.declared.len() < MOST_DECLARATIONS && is_name(name.get()) {
+            return self.first_symbol(place, name, report);
+        }
         if self.is_taken(table, place, name, Alike::IfSymbol, report)? {
             return Ok(());
         }
         let statement = Statement::Symbol(name.try_copy()?);
         self.declare(place, name, Meaning::Symbol, statement)
+    }
+
+    // Declares a symbol over no table, where there is room, unless its name is declared already: one look-up asks that, and puts it in.
+    fn first_symbol(
+        &mut self,
+        place: SourcePlace,
+        name: &TextBuf,
+        report: &mut Report,
+    ) -> Result<(), SourceFault> {
+        if let Some(taken) = self.mean_symbol(name.get())? {
+            return tell_taken(report, place, name, taken, Alike::IfSymbol);
+        }
+        let statement = Statement::Symbol(name.try_copy()?);
+        Ok(self.declared.push(SourceStatement { place, statement })?)
+    }
+
+    // Makes a name that of a symbol, unless it is declared. Answers what has declared it, if anything has; from now on a line of the
+    // source has.
+    fn mean_symbol(&mut self, name: &str) -> Result<Option<Taken>, AllocError> {
+        let name = String::from_str(self.alloc, name)?;
+        let symbol = Known {
+            meaning: Meaning::Symbol,
+            by_table: false,
+        };
+        let (number, before) = self.names.insert_full(name, symbol)?;
+        match before {
+            Some(before) => Ok(Some(self.mean_again(number, before))),
+            None => Ok(None),
+        }
+    }
+
+    // Gives the name of a number the meaning back that it had. Answers what had declared it; from now on a line of the source has.
+    fn mean_again(&mut self, number: usize, before: Known) -> Taken {
+        let taken = before.taken();
+        let Known {
+            meaning,
+            by_table: _,
+        } = before;
+        let known = Known {
+            meaning,
+            by_table: false,
+        };
+        match self.names.get_index_mut(number) {
+            Some(place) => drop(std::mem::replace(place, known)),
+            None => drop(known),
+        }
+        taken
     }
 
     // Declares each symbol of a range.
@@ -505,13 +587,7 @@ impl DeclaredNames {
         let Some(taken) = self.taken_by(table, name)? else {
             return Ok(false);
         };
-        if taken.by_table && alike.is_told_by(taken) {
-            report.count(Adjustment::DeclaredAlready, place)?;
-        } else if taken.by_table {
-            lose(report, Adjustment::DeclaredAlready, place, name)?;
-        } else {
-            lose(report, Adjustment::Dropped, place, name)?;
-        }
+        tell_taken(report, place, name, taken, alike)?;
         Ok(true)
     }
 
@@ -522,10 +598,7 @@ impl DeclaredNames {
         name: &TextBuf,
     ) -> Result<Option<Taken>, AllocError> {
         if let Some(known) = self.names.get_mut(name.get()) {
-            let taken = Taken {
-                by_table: known.by_table,
-                is_symbol: matches!(known.meaning, Meaning::Symbol),
-            };
+            let taken = known.taken();
             known.by_table = false;
             return Ok(Some(taken));
         }
@@ -672,6 +745,24 @@ fn second_name(name: &TextBuf, symbol: &TextBuf) -> Result<Statement, AllocError
         name: name.try_copy()?,
         symbol: symbol.try_copy()?,
     })
+}
+
+// Tells that a declaration is left out, since this has declared its name: it is lost, unless the table that is tailored has, and alike.
+fn tell_taken(
+    report: &mut Report,
+    place: SourcePlace,
+    name: &TextBuf,
+    taken: Taken,
+    alike: Alike,
+) -> Result<(), SourceFault> {
+    if !taken.by_table {
+        return lose(report, Adjustment::Dropped, place, name);
+    }
+    if !alike.is_told_by(taken) {
+        return lose(report, Adjustment::DeclaredAlready, place, name);
+    }
+    report.count(Adjustment::DeclaredAlready, place)?;
+    Ok(())
 }
 
 // Tells that a declaration is left out.

@@ -8,6 +8,7 @@
 //! - `source_statements`: what is made of the lines of a source, with its place (`LeftOut`);
 //! - `declared_names`: what each name of a source means, and what is declared; `meanings`, over no table, and `table_meanings`, over one
 //!   that is tailored;
+//! - `placed`: what an order places, by what was found of it;
 //! - `ellipses`, with `order_lines`: the characters between two order lines;
 //! - `weights`: weights by what is placed.
 #![tactic(auto)]
@@ -16,13 +17,17 @@ mod declared_names;
 mod ellipses;
 mod meanings;
 mod order_lines;
+mod placed;
 mod source_statements;
 mod table_meanings;
 mod weights;
 
 pub use ellipses::{Ellipses, Run};
 pub use meanings::Meanings;
-pub use order_lines::{OrderLines, put_line, put_range};
+pub use order_lines::{OrderLines, put_before, put_line, put_range};
+pub use placed::{Found, Placed};
 pub use source_statements::{SourceStatement, lose_statement, proper_line};
 pub use table_meanings::TableMeanings;
-pub use weights::{TableLookUp, WeightLookUp, without_symbol_weights, without_weights_of_symbol};
+pub use weights::{
+    PlacedLookUp, TableLookUp, WeightLookUp, without_symbol_weights, without_weights_of_symbol,
+};

@@ -5,6 +5,7 @@
 
 use crate::SourceStatement;
 use crate::declared_names::DeclaredNames;
+use crate::placed::Found;
 use coll_lookups::HashKeys;
 use coll_sources::{Report, SourceFault, SourceLine, SourcePlace};
 use coll_syntax::{Id, OrderLine};
@@ -37,6 +38,11 @@ impl Meanings {
     /// What is known of names.
     pub(crate) fn names(&self) -> &DeclaredNames {
         &self.names
+    }
+
+    /// What is found of an identifier.
+    pub fn found(&self, id: &Id) -> Found {
+        self.names.found(id)
     }
 
     /// Whether an identifier is a symbol's.

@@ -37,8 +37,8 @@ pub fn put_line<T: OrderLines>(
     }
 }
 
-// Puts what an ellipsis stands for, if there is one before this identifier.
-fn put_before<T: OrderLines>(
+/// Puts what an ellipsis stands for, if there is one before an order line of this identifier, which is put then.
+pub fn put_before<T: OrderLines>(
     lines: &mut T,
     id: &Id,
     report: &mut Report,

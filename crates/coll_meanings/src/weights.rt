@@ -1,17 +1,18 @@
 //! The weights of an entry, by what is placed and by own names.
 //!
 //! Weights over a table that is tailored and those over none go by the same rules (`LookUp`); what is handed out for those over none
-//! holds nothing of a table.
+//! holds nothing of a table. Where all that is placed is known by what was found of it, each identifier is looked up once.
 
 use crate::declared_names::DeclaredNames;
 use crate::meanings::Meanings;
+use crate::placed::{Found, Placed};
 use crate::table_meanings::TableMeanings;
 use coll_lex::ListBuf;
 use coll_lookups::IdSet;
 use coll_sources::{Adjustment, Lost, Report, SourceFault, SourcePlace};
 use coll_syntax::{Id, OrderLine, Weight};
 use coll_table::Table;
-use std::alloc::Global;
+use std::alloc::{AllocError, Global};
 
 /// What weights are looked up in.
 #[derive(Clone, Copy)]
@@ -43,11 +44,13 @@ impl WeightLookUp<'_> {
     }
 
     // The same, over no table.
-    fn look_up(&self) -> LookUp<'_> {
+    fn look_up(&self) -> LookUp<InSet<'_>> {
         LookUp {
-            names: self.meanings.names(),
-            table: None,
-            placed: self.placed,
+            standing: InSet {
+                names: self.meanings.names(),
+                table: None,
+                placed: self.placed,
+            },
             levels: self.levels,
             alloc: self.alloc,
         }
@@ -80,7 +83,7 @@ impl TableLookUp<'_, '_> {
 
     /// Whether an identifier is placed.
     pub fn is_placed(&self, id: &Id) -> bool {
-        self.look_up().is_placed(id)
+        self.look_up().standing.is_placed(id)
     }
 
     /// Whether all that weights name is placed, and stands for nothing else.
@@ -89,29 +92,131 @@ impl TableLookUp<'_, '_> {
     }
 
     // The same, over the table.
-    fn look_up(&self) -> LookUp<'_> {
+    fn look_up(&self) -> LookUp<InSet<'_>> {
         LookUp {
-            names: self.meanings.names(),
-            table: Some(self.meanings.table()),
-            placed: self.placed,
+            standing: InSet {
+                names: self.meanings.names(),
+                table: Some(self.meanings.table()),
+                placed: self.placed,
+            },
             levels: self.levels,
             alloc: self.alloc,
         }
     }
 }
 
-// What weights are looked up in, over a table or over none.
+/// What weights are looked up in, where all that is placed is known by what was found of it.
 #[derive(Clone, Copy)]
-struct LookUp<'a> {
+pub struct PlacedLookUp<'a> {
+    /// What names mean.
+    pub meanings: &'a Meanings,
+    /// What is placed.
+    pub placed: &'a Placed,
+    /// How many weights an entry may have.
+    pub levels: usize,
+    /// Where weights take memory.
+    pub alloc: Global,
+}
+
+impl PlacedLookUp<'_> {
+    /// An order line whose weights name what is placed, and no more than there are levels.
+    pub fn line(
+        &self,
+        place: SourcePlace,
+        line: OrderLine,
+        report: &mut Report,
+    ) -> Result<OrderLine, SourceFault> {
+        let standing = ByNumber {
+            names: self.meanings.names(),
+            placed: self.placed,
+        };
+        let look_up = LookUp {
+            standing,
+            levels: self.levels,
+            alloc: self.alloc,
+        };
+        look_up.line(place, line, report)
+    }
+}
+
+// What tells of an identifier where it stands.
+trait Standing {
+    // Whether it is placed.
+    fn is_placed(&self, id: &Id) -> bool;
+
+    // Whether it stays as it is: it is placed, and stands for nothing else.
+    fn stays(&self, id: &Id) -> bool;
+
+    // What it stands for, in new memory.
+    fn resolved(&self, id: &Id) -> Result<Id, AllocError>;
+}
+
+// What names mean, and what is placed beside what a table places, if there is one.
+#[derive(Clone, Copy)]
+struct InSet<'a> {
     names: &'a DeclaredNames,
     table: Option<&'a Table>,
     // What is placed beside what the table places.
     placed: &'a IdSet,
+}
+
+impl InSet<'_> {
+    // Whether the table places an identifier.
+    fn is_in_table(&self, id: &Id) -> bool {
+        match self.table {
+            Some(table) => table.entry(id).is_some(),
+            None => false,
+        }
+    }
+}
+
+impl Standing for InSet<'_> {
+    fn is_placed(&self, id: &Id) -> bool {
+        self.placed.contains(id) || self.is_in_table(id)
+    }
+
+    fn stays(&self, id: &Id) -> bool {
+        self.is_placed(id) && self.names.stands_for_itself(self.table, id)
+    }
+
+    fn resolved(&self, id: &Id) -> Result<Id, AllocError> {
+        self.names.resolved(self.table, id.clone()?)
+    }
+}
+
+// What names mean over no table, and what is placed.
+#[derive(Clone, Copy)]
+struct ByNumber<'a> {
+    names: &'a DeclaredNames,
+    placed: &'a Placed,
+}
+
+impl Standing for ByNumber<'_> {
+    fn is_placed(&self, id: &Id) -> bool {
+        self.placed.contains(self.names.found(id))
+    }
+
+    fn stays(&self, id: &Id) -> bool {
+        match self.names.found(id) {
+            Found::Second(_) => false,
+            found => self.placed.contains(found),
+        }
+    }
+
+    fn resolved(&self, id: &Id) -> Result<Id, AllocError> {
+        self.names.resolved(None, id.clone()?)
+    }
+}
+
+// What weights are looked up in.
+#[derive(Clone, Copy)]
+struct LookUp<S> {
+    standing: S,
     levels: usize,
     alloc: Global,
 }
 
-impl LookUp<'_> {
+impl<S: Standing> LookUp<S> {
     // An order line whose weights name what is placed, and no more than there are levels.
     fn line(
         &self,
@@ -123,19 +228,6 @@ impl LookUp<'_> {
         match weights {
             Some(weights) => self.with_weights(place, id, weights.into_items(), report),
             None => Ok(OrderLine { id, weights: None }),
-        }
-    }
-
-    // Whether an identifier is placed.
-    fn is_placed(&self, id: &Id) -> bool {
-        self.placed.contains(id) || self.is_in_table(id)
-    }
-
-    // Whether the table places an identifier.
-    fn is_in_table(&self, id: &Id) -> bool {
-        match self.table {
-            Some(table) => table.entry(id).is_some(),
-            None => false,
         }
     }
 
@@ -186,7 +278,7 @@ impl LookUp<'_> {
     // Whether all that a weight names is placed, and stands for nothing else.
     fn all_named_stay(&self, weight: &Weight) -> bool {
         match weight {
-            Weight::Names(ids) => ids.get().iter().all(|id| self.stays(id)),
+            Weight::Names(ids) => ids.get().iter().all(|id| self.standing.stays(id)),
             Weight::Ignore | Weight::Own => true,
         }
     }
@@ -209,11 +301,6 @@ impl LookUp<'_> {
         Ok(())
     }
 
-    // Whether an identifier stays as it is: it is placed, and stands for nothing else.
-    fn stays(&self, id: &Id) -> bool {
-        self.is_placed(id) && self.names.stands_for_itself(self.table, id)
-    }
-
     // The weight of these identifiers by what they stand for, without those that are placed nowhere; of none it ignores the entry.
     fn mended(
         &self,
@@ -223,8 +310,8 @@ impl LookUp<'_> {
     ) -> Result<Weight, SourceFault> {
         let mut kept = Vec::new(self.alloc);
         for id in ids {
-            let id = self.names.resolved(self.table, id.clone()?)?;
-            if self.is_placed(&id) {
+            let id = self.standing.resolved(id)?;
+            if self.standing.is_placed(&id) {
                 kept.push(id)?;
             } else {
                 report.lose(Adjustment::UnplacedInWeight, place, Lost::Id(id))?;
