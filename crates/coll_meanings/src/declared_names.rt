@@ -17,7 +17,7 @@ use coll_lookups::{HashKeys, WordKeys};
 use coll_nodes::{DeclaredItem, MOST_DECLARATIONS};
 use coll_sources::{
     Adjustment, Declaration, Lost, NameRange, Report, Said, SourceFault, SourceLine, SourcePlace,
-    name_at,
+    spell_name,
 };
 use coll_syntax::{Id, MOST_ELEMENT_CHARS, OrderLine, Statement};
 use coll_table::Table;
@@ -142,8 +142,8 @@ impl DeclaredNames {
         }
     }
 
-    // What is found of a name here.
-    fn found_name(&self, name: &str) -> Found {
+    /// What is found of a name here, whatever a table declares.
+    pub(crate) fn found_name(&self, name: &str) -> Found {
         let Some((number, _, known)) = self.names.get_full(name) else {
             return Found::Unknown;
         };
@@ -343,8 +343,10 @@ impl DeclaredNames {
         report: &mut Report,
     ) -> Result<(), SourceFault> {
         report.count(Adjustment::SymbolRange, place)?;
+        let mut room = String::new(self.alloc);
         for number in range.first..=range.last {
-            let name = name_at(self.alloc, range, number)?;
+            spell_name(&mut room, range, number)?;
+            let name = TextBuf::copied(self.alloc, room.as_str())?;
             self.symbol(table, place, &name, report)?;
         }
         Ok(())

@@ -34,7 +34,7 @@ mod weights;
 
 pub use adjustments::{Adjustment, Loss, Lost, Report, Tally, all_adjustments};
 pub use places::SourcePlace;
-pub use ranges::{NameRange, name_at};
+pub use ranges::{NameRange, name_at, spell_name};
 pub use readers::{SourceKind, SourceReader};
 pub use source_faults::{SourceCause, SourceFault};
 pub use source_lines::{Declaration, Said, SourceLine, Tailoring};

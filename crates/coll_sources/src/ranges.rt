@@ -1,6 +1,6 @@
 //! Ranges of names: letters that all have, and then a number of as many digits in each.
 //!
-//! A name is spelled in room that is asked for once, and kept as short texts are, which take no memory.
+//! All names of a range are spelled in one room, and kept as short texts are, which take no memory.
 
 ghost use Rattle.std.specs.Prelude.{◌≡◌, ◌<◌, ◌≤◌, ◌++◌, chars, string_bytes, IfOk, OnOk};
 ghost use Rattle.coll_lex.specs.Spelling.{hex_digit};
@@ -22,13 +22,26 @@ pub(crate) enum Digits {
 }
 
 impl Digits {
-    // The number of these digits.
-    fn base(self) -> u32
-        ensures { result ≡ base_of self }
+    ghost use Rattle.std.specs.Prelude.{◌/◌, ◌%◌};
+
+    // What a number is without its last digit.
+    fn without_last(self, number: u32) -> u32
+        ensures { result ≡ number / base_of self }
     {
         match self {
-            Digits::Decimal => 10,
-            Digits::Hexadecimal => 16,
+            Digits::Decimal => number / 10,
+            Digits::Hexadecimal => number / 16,
+        }
+    }
+
+    // The last digit of a number.
+    fn last(self, number: u32) -> u32
+        ensures value { result ≡ number % base_of self }
+        ensures small { result < 16 }
+    {
+        match self {
+            Digits::Decimal => number % 10,
+            Digits::Hexadecimal => number % 16,
         }
     }
 }
@@ -115,25 +128,39 @@ fn with_digit(number: u32, digit: u8, spelled: Digits) -> Option<u32> {
 pub fn name_at(alloc: Global, range: &NameRange, number: u32) -> Result<TextBuf, AllocError>
     ensures { IfOk result (λ name. name ≡ range_name range.now number) }
 {
-    let letters = range.letters.get();
-    let mut name = String::with_capacity(alloc, letters.len().saturating_add(range.width))?;
-    name.push_str(letters)?;
-    push_digits(&mut name, range.digits.base(), range.width, number)?;
+    let mut name = String::with_capacity(
+        alloc,
+        range.letters.get().len().saturating_add(range.width),
+    )?;
+    spell_name(&mut name, range, number)?;
     TextBuf::copied(alloc, name.as_str())
+}
+
+/// Spells the name of a range that has this number in place of a text: so one room serves all names of a range.
+pub fn spell_name(name: &mut String, range: &NameRange, number: u32) -> Result<(), AllocError>
+    ensures { OnOk result (chars (string_bytes name.new) ≡ range_name range.now number) }
+{
+    name.clear();
+    name.push_str(range.letters.get())?;
+    push_digits(name, range.digits, range.width, number)?;
+    Ok(())
 }
 
 // Puts the last digits of a number at the end of a name, as many as are asked for.
 #[tactic(auto, unfolding(crate::specs::NameRanges::digits_in))]
-fn push_digits(name: &mut String, base: u32, count: usize, number: u32) -> Result<(), AllocError>
-    requires some { 0 < base }
-    requires digits { base ≤ 16 }
-    ensures { OnOk result (chars (string_bytes name.new) ≡ chars (string_bytes name.old) ++ digits_in base count number) }
+fn push_digits(
+    name: &mut String,
+    digits: Digits,
+    count: usize,
+    number: u32,
+) -> Result<(), AllocError>
+    ensures { OnOk result (chars (string_bytes name.new) ≡ chars (string_bytes name.old) ++ digits_in (base_of digits) count number) }
 {
     if count == 0 {
         return Ok(());
     }
-    push_digits(name, base, count - 1, number / base)?;
-    name.push(digit(number % base))?;
+    push_digits(name, digits, count - 1, digits.without_last(number))?;
+    name.push(digit(digits.last(number)))?;
     Ok(())
 }
 
