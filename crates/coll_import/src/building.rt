@@ -16,7 +16,7 @@ use crate::proper_lines::{section_line, table_line};
 use crate::rules::common_rules;
 use coll_lex::TextBuf;
 use coll_lookups::HashKeys;
-use coll_meanings::{Meanings, PlacedLookUp, SourceStatement, lose_statement};
+use coll_meanings::{LastNames, Meanings, PlacedLookUp, SourceStatement, lose_statement};
 use coll_sources::{Report, SourceFault, SourceLine, SourcePlace};
 use coll_syntax::{Rules, Statement, TableLine};
 use coll_table::Table;
@@ -179,11 +179,12 @@ fn place_all(
     lines: Vec<OrderedLine>,
     report: &mut Report,
 ) -> Result<(), SourceFault> {
+    let mut last = LastNames::new(look_up.alloc);
     for OrderedLine { place, ordered } in lines {
         match ordered {
             Ordered::Section(name) => begin(builder, place, name)?,
             Ordered::Entry(line) => {
-                let line = look_up.line(place, line, report)?;
+                let line = look_up.line(place, line, &mut last, report)?;
                 put(builder, place, Statement::Reweight(line), report)?;
             }
         }

@@ -29,5 +29,6 @@ pub use placed::{Found, Placed};
 pub use source_statements::{SourceStatement, lose_statement, proper_line};
 pub use table_meanings::TableMeanings;
 pub use weights::{
-    PlacedLookUp, TableLookUp, WeightLookUp, without_symbol_weights, without_weights_of_symbol,
+    LastNames, PlacedLookUp, TableLookUp, WeightLookUp, without_symbol_weights,
+    without_weights_of_symbol,
 };

@@ -7,7 +7,7 @@ use crate::declared_names::DeclaredNames;
 use crate::meanings::Meanings;
 use crate::placed::{Found, Placed};
 use crate::table_meanings::TableMeanings;
-use coll_lex::ListBuf;
+use coll_lex::{ListBuf, TextBuf};
 use coll_lookups::IdSet;
 use coll_sources::{Adjustment, Lost, Report, SourceFault, SourcePlace};
 use coll_syntax::{Id, OrderLine, Weight};
@@ -118,24 +118,126 @@ pub struct PlacedLookUp<'a> {
     pub alloc: Global,
 }
 
-impl PlacedLookUp<'_> {
-    /// An order line whose weights name what is placed, and no more than there are levels.
+impl<'a> PlacedLookUp<'a> {
+    /// An order line whose weights name what is placed, and no more than there are levels. What weights of the lines before named last
+    /// is known to stay; what these name is kept there.
     pub fn line(
         &self,
         place: SourcePlace,
         line: OrderLine,
+        last: &mut LastNames,
         report: &mut Report,
     ) -> Result<OrderLine, SourceFault> {
-        let standing = ByNumber {
-            names: self.meanings.names(),
-            placed: self.placed,
+        match self.stays(&line, last) {
+            Ok(true) => Ok(line),
+            Ok(false) => self.look_up().line(place, line, report),
+            Err(error) => {
+                drop(line);
+                Err(SourceFault::from(error))
+            }
+        }
+    }
+
+    // Whether a line has no more weights than there are levels, and all that they name is placed, and stands for nothing else.
+    fn stays(&self, line: &OrderLine, last: &mut LastNames) -> Result<bool, AllocError> {
+        let Some(weights) = &line.weights else {
+            return Ok(true);
         };
-        let look_up = LookUp {
-            standing,
+        if weights.get().len() > self.levels {
+            return Ok(false);
+        }
+        for (level, weight) in weights.get().iter().enumerate() {
+            if !self.weight_stays(level, weight, last)? {
+                return Ok(false);
+            }
+        }
+        Ok(true)
+    }
+
+    // Whether all that a weight of this level names is placed, and stands for nothing else.
+    fn weight_stays(
+        &self,
+        level: usize,
+        weight: &Weight,
+        last: &mut LastNames,
+    ) -> Result<bool, AllocError> {
+        let Weight::Names(ids) = weight else {
+            return Ok(true);
+        };
+        match ids.get() {
+            [Id::Named(name)] => self.name_stays(level, name, last),
+            _ => Ok(self.look_up().all_named_stay(weight)),
+        }
+    }
+
+    // Whether a name that a weight of this level names alone is placed, and stands for nothing else.
+    fn name_stays(
+        &self,
+        level: usize,
+        name: &TextBuf,
+        last: &mut LastNames,
+    ) -> Result<bool, AllocError> {
+        if last.is(level, name) {
+            return Ok(true);
+        }
+        if !self.standing().name_stays(name) {
+            return Ok(false);
+        }
+        last.keep(level, name)?;
+        Ok(true)
+    }
+
+    // The same, for any line.
+    fn look_up(&self) -> LookUp<ByNumber<'a>> {
+        LookUp {
+            standing: self.standing(),
             levels: self.levels,
             alloc: self.alloc,
-        };
-        look_up.line(place, line, report)
+        }
+    }
+
+    // What names mean, and what is placed.
+    fn standing(&self) -> ByNumber<'a> {
+        ByNumber {
+            names: self.meanings.names(),
+            placed: self.placed,
+        }
+    }
+}
+
+/// The name that a weight named last at each level, alone, and that is placed and stands for nothing else: most weights name what those
+/// of the line before name.
+#[derive(Drop)]
+pub struct LastNames {
+    // By level.
+    names: Vec<Option<TextBuf>>,
+}
+
+impl LastNames {
+    /// None has been named. It takes no memory.
+    pub fn new(alloc: Global) -> LastNames {
+        LastNames {
+            names: Vec::new(alloc),
+        }
+    }
+
+    // Whether this is the name that was named last at a level.
+    fn is(&self, level: usize, name: &TextBuf) -> bool {
+        match self.names.get(level) {
+            Some(Some(last)) => last.get() == name.get(),
+            _ => false,
+        }
+    }
+
+    // Keeps the name that was named last at a level.
+    fn keep(&mut self, level: usize, name: &TextBuf) -> Result<(), AllocError> {
+        for _ in self.names.len()..=level {
+            self.names.push(None)?;
+        }
+        if let Some(last) = self.names.get_mut(level) {
+            drop(last.replace(name.try_copy()?));
+        }
+        Ok(())
     }
 }
 
@@ -191,16 +293,28 @@ struct ByNumber<'a> {
     placed: &'a Placed,
 }
 
+impl ByNumber<'_> {
+    // Whether a name is placed, and stands for nothing else.
+    fn name_stays(&self, name: &TextBuf) -> bool {
+        self.found_stays(self.names.found_name(name.get()))
+    }
+
+    // Whether what was found is placed, and stands for nothing else.
+    fn found_stays(&self, found: Found) -> bool {
+        match found {
+            Found::Second(_) => false,
+            found => self.placed.contains(found),
+        }
+    }
+}
+
 impl Standing for ByNumber<'_> {
     fn is_placed(&self, id: &Id) -> bool {
         self.placed.contains(self.names.found(id))
     }
 
     fn stays(&self, id: &Id) -> bool {
-        match self.names.found(id) {
-            Found::Second(_) => false,
-            found => self.placed.contains(found),
-        }
+        self.found_stays(self.names.found(id))
     }
 
     fn resolved(&self, id: &Id) -> Result<Id, AllocError> {
