@@ -1,6 +1,6 @@
 //! Weights that name what isn't placed yet: they are given at the end.
 
-use coll_lookups::HashKeys;
+use coll_lookups::{HashKeys, WordKeys};
 use coll_sources::SourcePlace;
 use coll_syntax::{Id, OrderLine};
 use indexmap::IndexMap;
@@ -19,7 +19,7 @@ pub(crate) struct LaterWeights {
     // In the order of the source; none where a later line has taken it back.
     lines: Vec<Option<LineAt>>,
     // Where that of an identifier stands.
-    places: IndexMap<String, usize, HashKeys>,
+    places: IndexMap<String, usize, WordKeys>,
     alloc: Global,
 }
 
@@ -28,7 +28,7 @@ impl LaterWeights {
     pub(crate) fn new(alloc: Global, keys: HashKeys) -> LaterWeights {
         LaterWeights {
             lines: Vec::new(alloc),
-            places: IndexMap::with_hasher(alloc, keys),
+            places: IndexMap::with_hasher(alloc, WordKeys::new(keys)),
             alloc,
         }
     }

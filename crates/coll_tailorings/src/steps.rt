@@ -5,7 +5,7 @@
 //! the last line it is known what all blocks place beside the table.
 
 use coll_lex::{LexFault, MOST_LINES, TextBuf};
-use coll_lookups::{HashKeys, IdSet};
+use coll_lookups::{HashKeys, IdSet, WordKeys};
 use coll_meanings::{Ellipses, OrderLines, TableMeanings, put_line, put_range};
 use coll_sources::{
     Adjustment, Lost, Report, Said, SourceFault, SourceLine, SourcePlace, Tailoring,
@@ -76,7 +76,7 @@ enum Within {
 pub(crate) struct Steps<'t> {
     said: Stepped<'t>,
     // The names of the tables that are tailored, to be looked up.
-    bases: IndexSet<String, HashKeys>,
+    bases: IndexSet<String, WordKeys>,
     within: Within,
     ellipses: Ellipses,
     alloc: Global,
@@ -92,7 +92,7 @@ impl<'t> Steps<'t> {
                 copies: Vec::new(alloc),
                 steps: Vec::new(alloc),
             },
-            bases: IndexSet::with_hasher(alloc, keys),
+            bases: IndexSet::with_hasher(alloc, WordKeys::new(keys)),
             within: Within::Nothing,
             ellipses: Ellipses::new(alloc),
             alloc,
