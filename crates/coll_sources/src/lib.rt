@@ -12,6 +12,7 @@
 //! - `bases`: whether a text that a tailoring copies is the table that is tailored;
 //! - `operands`, `weights`, `ranges` and `grammar`: the tokens of a line, read into what it says;
 //! - `plain_orders`: most order lines, read where they stand;
+//! - `subjects`: what a line is about that is left out;
 //! - `names`: names that are looked up;
 //! - `readers`: text after text, to the end (`Readers`);
 //! - `adjustments`: what is told of what was changed (`Adjustments`, `Reports`).
@@ -29,6 +30,7 @@ mod ranges;
 mod readers;
 mod source_faults;
 mod source_lines;
+mod subjects;
 mod texts;
 mod weights;
 

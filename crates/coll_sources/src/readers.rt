@@ -23,14 +23,15 @@ use crate::grammar::said;
 use crate::names::{all_names, only_one, put_name};
 use crate::operands::Unread;
 use crate::plain_orders::plain_order;
+use crate::subjects::subject_of;
 use crate::texts::{line_at, text_of};
 use crate::{
-    Adjustment, Lost, Report, Said, SourceCause, SourceFault, SourceLine, SourcePlace, Tailoring,
+    Adjustment, Report, Said, SourceCause, SourceFault, SourceLine, SourcePlace, Tailoring,
 };
 use coll_devices::{LineReader, ReadStop, Source};
 use coll_lex::{LexFault, Lexer, Line, MOST_LINES, Piece, TextBuf, Token};
 use coll_lookups::HashKeys;
-use coll_syntax::{Id, OrderLine, SyntaxFault, characters, copied_name, id_of, is_word};
+use coll_syntax::{OrderLine, SyntaxFault, characters, is_word};
 use coll_texts::{LoadCause, LoadFault};
 use indexmap::IndexSet;
 use std::alloc::{AllocError, Global};
@@ -772,46 +773,5 @@ fn copied(tokens: &[Token]) -> Option<&[Piece]> {
     match tokens {
         [copy, Token::Text(pieces)] if is_word(copy, "copy") => Some(pieces.get()),
         _ => None,
-    }
-}
-
-// What a line that is left out is about: the identifier that it begins with, or else the name behind its word, or that word. Where it
-// begins with a string, it is about the quotation mark.
-fn subject_of(alloc: Global, tokens: &[Token]) -> Result<Option<Lost>, AllocError> {
-    let Some((first, operands)) = tokens.split_first() else {
-        return Ok(None);
-    };
-    match id_of(alloc, first) {
-        Ok(Some(id)) => Ok(Some(Lost::Id(id))),
-        Ok(None) => subject_behind(alloc, first, operands),
-        Err(error) => Err(error),
-    }
-}
-
-// What a line is about that begins with no identifier.
-fn subject_behind(
-    alloc: Global,
-    first: &Token,
-    operands: &[Token],
-) -> Result<Option<Lost>, AllocError> {
-    match (first, operands) {
-        (Token::Word(_), [Token::Symbol(name), ..]) => {
-            Ok(Some(Lost::Id(Id::Named(copied_name(alloc, name)?))))
-        }
-        _ => {
-            let word = TextBuf::copied(alloc, shown(first))?;
-            Ok(Some(Lost::Word(word)))
-        }
-    }
-}
-
-// The word of a token, or the mark that it begins with.
-fn shown(token: &Token) -> &str {
-    match token {
-        Token::Word(word) => word.get(),
-        Token::Symbol(_) | Token::Char(_) => "<",
-        Token::Text(_) => "\"",
-        Token::Semicolon => ";",
-        Token::Comma => ",",
     }
 }
