@@ -1,4 +1,5 @@
 pub mod DeclaredLemmas
+pub mod FirstLemmas
 pub mod KeyedAnew
 pub mod LeadLemmas
 pub mod LetterLemmas
@@ -14,4 +15,5 @@ pub mod SortCases
 pub mod SortedLemmas
 pub mod StoredLemmas
 pub mod TextWords
+pub mod TiedLemmas
 pub mod WordTextLemmas

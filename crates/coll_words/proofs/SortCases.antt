@@ -5,13 +5,13 @@ use Rattle.std.specs.Io.KnownBytes.{Appends}
 use Rattle.std.specs.List.{flat_map}
 use Rattle.coll_devices.specs.Devices.{AppendsPrefix, Sends, raised}
 use Rattle.coll_nodes.specs.Table.{Collation}
-use Rattle.coll_nodes.specs.WellFormed.{IsWellFormed}
 use Rattle.coll_bench.specs.BatchReading.{starved_in}
 use Rattle.coll_bench.specs.BatchRuns.{Ending, ReadFailed, WriteFailed, Starved, Refused, ending_of}
 use Rattle.coll_bench.specs.Serving.{ReadsNone, write_failed}
 use Rattle.coll_bench.specs.declared.faults.RunFault.{RunFault}
-use Rattle.coll_words.specs.KeyedWords.{KeyedWord, AreKeyed, texts_of}
-use Rattle.coll_words.specs.SortRuns.{SortsText, SortRanTo, SortRuns, SortsWords, WritesSorted}
+use Rattle.coll_words.specs.KeyedWords.{KeyedWord, texts_of}
+use Rattle.coll_words.specs.SortRuns.{SortsText, SortRanTo, SortRuns, WritesSorted}
+use Rattle.coll_words.specs.SortedWords.{AreSorted}
 use Rattle.coll_words.specs.Words.{written_word, written_words}
 use Rattle.coll_words.specs.WordReading.{AreWordsOf, CountsReading, ReadingFails, WordsFail}
 
@@ -29,10 +29,10 @@ pub starved_first : (left left_after : Option (List ℕ)) → ReadingFails left 
 starved_first left left_after = λ text e. inl refl
 
 -- words that were sorted are written
-pub writes : (words : List KeyedWord) (sorted : List (List ℕ)) (taken taken_after : Option (List ℕ)) (r : Result (Unit {0}) RunFault) → SortsWords words sorted
-    → Sends taken taken_after (written_words sorted) r → IfErr r (λ ended. ended ≡ write_failed) → WritesSorted words taken taken_after r
-writes words sorted taken taken_after (Ok done) sorts sent fault = (sorted, sorts, sent)
-writes words sorted taken taken_after (Err ended) sorts sent fault = inr (fault, sorted, sorts, sent)
+pub writes : (table : Collation) (words : List KeyedWord) (sorted : List (List ℕ)) (taken taken_after : Option (List ℕ)) (r : Result (Unit {0}) RunFault)
+    → AreSorted table (texts_of words) sorted → Sends taken taken_after (written_words sorted) r → IfErr r (λ ended. ended ≡ write_failed) → WritesSorted table words taken taken_after r
+writes table words sorted taken taken_after (Ok done) sorts sent fault = (sorted, sorts, sent)
+writes table words sorted taken taken_after (Err ended) sorts sent fault = inr (fault, sorted, sorts, sent)
 
 -- bytes behind those that are known
 pub appended : (a c : Option (List ℕ)) (before bytes : List ℕ) → a ≡ Some before → Appends a c bytes → c ≡ Some (before ++ bytes)
@@ -51,23 +51,23 @@ module _ (table : Collation) (left left_after taken : Option (List ℕ)) where
       by_kind Starved h = (refl, h)
       by_kind Refused h = (refl, h)
 
-  module _ (words : List KeyedWord) (read : AreWordsOf left words) (well : IsWellFormed table) (keyed : AreKeyed table words) where
+  module _ (words : List KeyedWord) (read : AreWordsOf left words) where
     -- the words of the text, sorted
-    sorts_text : (sorted : List (List ℕ)) → SortsWords words sorted → (text : List ℕ) → left ≡ Some text → SortsText table text sorted
-    sorts_text sorted sorts text e = (texts_of words, read text e, sorts table well keyed)
+    sorts_text : (sorted : List (List ℕ)) → AreSorted table (texts_of words) sorted → (text : List ℕ) → left ≡ Some text → SortsText table text sorted
+    sorts_text sorted sorts text e = (texts_of words, read text e, sorts)
 
     -- memory was refused to the sort
     starved_runs : (taken_after : Option (List ℕ)) → taken_after ≡ taken → SortRuns table left left_after taken taken_after (Err (starved_in 0))
     starved_runs taken_after same text before e t = ([], same ∙ t ∙ ap Some (sym (append-nil before)), (refl, inl refl))
 
     -- a write failed
-    stopped_runs : (taken_after : Option (List ℕ)) (sorted : List (List ℕ)) → SortsWords words sorted → AppendsPrefix taken taken_after (written_words sorted)
+    stopped_runs : (taken_after : Option (List ℕ)) (sorted : List (List ℕ)) → AreSorted table (texts_of words) sorted → AppendsPrefix taken taken_after (written_words sorted)
         → SortRuns table left left_after taken taken_after (Err write_failed)
     stopped_runs taken_after sorted sorts prefix text before e t =
         (prefix.0, appended taken taken_after before prefix.0 t prefix.3, (refl, sorted, prefix.1, sorts_text sorted sorts text e, prefix.2))
 
     -- what was written, by what writing answered
-    pub written_runs : (taken_after : Option (List ℕ)) (r : Result (Unit {0}) RunFault) → WritesSorted words taken taken_after r → SortRuns table left left_after taken taken_after r
+    pub written_runs : (taken_after : Option (List ℕ)) (r : Result (Unit {0}) RunFault) → WritesSorted table words taken taken_after r → SortRuns table left left_after taken taken_after r
     written_runs taken_after (Ok done) h text before e t =
         (written_words h.0, appended taken taken_after before (written_words h.0) t h.2, (h.0, sorts_text h.0 h.1 text e, refl))
     written_runs taken_after (Err ended) h text before e t =

@@ -11,15 +11,11 @@ use Rattle.coll_elements.proofs.Tests.{by_test}
 use Rattle.coll_key.specs.SortKey.{key_of}
 use Rattle.coll_key.specs.TextOrder.{list_order, order_of}
 use Rattle.coll_key.proofs.KeyOrder.{keys_in_order, All-first, All-others}
-use Rattle.coll_words.specs.KeyedWords.{KeyedWord, IsKeyed, AreKeyed, texts_of}
+use Rattle.coll_words.specs.KeyedWords.{KeyedWord, IsKeyed, AreKeyed, has_less_key, texts_of}
 use Rattle.coll_words.specs.PackedKeys.{packed_key}
 use Rattle.coll_words.specs.SortRuns.{SortsWords}
 use Rattle.coll_words.specs.SortedWords.{AreSorted}
 use Rattle.coll_words.proofs.PackedOrder.{packed_in_order}
-
--- the key of a word is less
-abbrev pub has_less_key : KeyedWord → KeyedWord → Bool
-has_less_key word other = is_lt (list_order word.key other.key)
 
 -- words stay keyed in another order
 pub keyed_still : (old new : List KeyedWord) → IsPermutation old new → (table : Collation) → AreKeyed table old → AreKeyed table new

@@ -1,9 +1,8 @@
 -- What stands at a place stays there where more is put behind it.
-use Rattle.std.proofs.Common.{◌≡◌, ℕ, ◌+◌, ◌-◌, ◌≤◌, List, [], ◌∷◌, ◌++◌, length, take, drop, get_or, chars, encode_utf8_all, slice_range, IsUtf8}
+use Rattle.std.proofs.Common.{◌≡◌, ℕ, ◌+◌, ◌-◌, ◌≤◌, List, [], ◌∷◌, ◌++◌, length, take, drop, get_or, chars, slice_range, IsUtf8}
 use Rattle.std.proofs.Common.{refl, sym, ap, subst, ◌∙◌, arith, length-append}
 use Rattle.std.proofs.lemmas.List.{take_all, take-append-le, drop-append-le, length-drop, map-append}
 use Rattle.std.proofs.lemmas.List.Elements.{All-append, All-cons, All-nil}
-use Rattle.std.proofs.lemmas.Str.{encodes-chars}
 use Rattle.coll_key.proofs.KeyOrder.{All-first, All-others}
 use Rattle.coll_words.specs.KeyedWords.{KeyedWord}
 use Rattle.coll_words.specs.StoredWords.{IsPlace, ArePlaces, text_at, word_at, words_at}
@@ -41,7 +40,7 @@ module _ (texts more keys others texts_now keys_now : List ℕ) (texts_are : tex
       text_within = omega (arith, is.text_within, ap length texts_are, length-append texts more);
       key = is.key;
       key_within = omega (arith, is.key_within, ap length keys_are, length-append keys others);
-      utf8 = subst (λ (bytes : List ℕ). encode_utf8_all (chars bytes) ≡ bytes) (sym text_stays) is.utf8;
+      utf8 = subst IsUtf8 (sym text_stays) is.utf8;
     }
 
   -- so do the places, and the words
@@ -79,7 +78,7 @@ module _ (texts more keys others texts_now keys_now : List ℕ) (texts_are : tex
       text_within = omega (arith, text_end);
       key = omega (arith, key, key_end, ap length keys_are, length-append keys others);
       key_within = omega (arith, key_end);
-      utf8 = subst (λ (bytes : List ℕ). encode_utf8_all (chars bytes) ≡ bytes) (sym text_put) (encodes-chars more utf8);
+      utf8 = subst IsUtf8 (sym text_put) utf8;
     }
 
     pub places_with : (places places_now : List WordPlace) → places_now ≡ places ++ place ∷ [] → ArePlaces texts keys places → ArePlaces texts_now keys_now places_now

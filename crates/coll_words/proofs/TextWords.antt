@@ -23,8 +23,7 @@ use Rattle.coll_bench.specs.BatchReading.{FailsAs, stopped_in}
 use Rattle.coll_bench.specs.BatchRuns.{Ending, ReadFailed, WriteFailed, Starved, Refused, ending_of}
 use Rattle.coll_bench.specs.declared.faults.Fault.TheVariants as fault
 use Rattle.coll_bench.specs.declared.faults.RunFault.{RunFault}
-use Rattle.coll_nodes.specs.Table.{Collation}
-use Rattle.coll_words.specs.KeyedWords.{KeyedWord, IsKeyed, AreKeyed, texts_of}
+use Rattle.coll_words.specs.KeyedWords.{KeyedWord, AreKeyedBy, texts_of}
 use Rattle.coll_words.specs.Words.{unless_at_fault, unless_long, word_at, line_word, behind, words_from, words_of}
 use Rattle.coll_words.specs.WordReading.{AreWords, PutsWord, StarvesWithin, TakesLine, WordsFail}
 
@@ -127,10 +126,10 @@ module _ (before number : ℕ) (line text : List ℕ) (is : number ≡ before + 
         (by_test (λ (b : Bool). b ≡ false) (is_utf8 (without_return line)) (λ on. absurd (none (IsUtf8-from_is_utf8 (without_return line) on))) (λ off. refl))
 
 -- a line that is taken, where its word is put behind others
-pub takes : (table : Collation) (old new : List KeyedWord) (line text : List ℕ) (r : Result (Unit {0}) RunFault) → OnOk r (PutsWord table old text new) → OnOk r (is_too_long text ≡ false)
-    → (is_too_long text ≡ false → line_word (length old) line ≡ Ok text) → OnOk r (TakesLine table old line new)
-takes table old new line text (Ok done) puts keyed is = (text, is keyed, puts)
-takes table old new line text (Err ended) puts keyed is = tt
+pub takes : (keys : List ℕ → List ℕ) (old new : List KeyedWord) (line text : List ℕ) (r : Result (Unit {0}) RunFault) → OnOk r (PutsWord keys old text new) → OnOk r (is_too_long text ≡ false)
+    → (is_too_long text ≡ false → line_word (length old) line ≡ Ok text) → OnOk r (TakesLine keys old line new)
+takes keys old new line text (Ok done) puts keyed is = (text, is keyed, puts)
+takes keys old new line text (Err ended) puts keyed is = tt
 
 -- whatever text the device had, the lines read so far are these words
 pub record OnWay (start : Option (List ℕ)) (reader : ReaderState) (left : Option (List ℕ)) (words : List (List ℕ)) : Type 0 where
@@ -235,21 +234,25 @@ module _ (start : Option (List ℕ)) (reader : ReaderState) (left : Option (List
 
 -- Words with their keys.
 
-module _ (table : Collation) where
+module _ (keys : List ℕ → List ℕ) where
   -- they are as many as without
   length_texts : (words : List KeyedWord) → length (texts_of words) ≡ length words
   length_texts words = length-map words (λ (word : KeyedWord). word.text)
 
-  module _ (old new : List KeyedWord) (line : List ℕ) (takes : TakesLine table old line new) where
+  module _ (old new : List KeyedWord) (line : List ℕ) (takes : TakesLine keys old line new) where
     -- a line more has a word more
     texts_more : texts_of new ≡ texts_of old ++ takes.0 ∷ []
     texts_more =
         ap texts_of takes.2.1 ∙ map-append (λ (word : KeyedWord). word.text) old (takes.2.0 ∷ []) ∙ ap (λ (text : List ℕ). texts_of old ++ text ∷ []) takes.2.2
 
-    pub keyed_more : AreKeyed table old → AreKeyed table new
+    -- the key is that of the text
+    abbrev HasKey : KeyedWord → Type 0
+    HasKey word = word.key ≡ keys word.text
+
+    pub keyed_more : AreKeyedBy keys old → AreKeyedBy keys new
     keyed_more all =
-        subst (AreKeyed table) (sym takes.2.1)
-        (All-append (IsKeyed table) old (takes.2.0 ∷ []) all (All-cons (IsKeyed table) takes.2.0 [] takes.2.3 (All-nil (IsKeyed table))))
+        subst (AreKeyedBy keys) (sym takes.2.1)
+        (All-append HasKey old (takes.2.0 ∷ []) all (All-cons HasKey takes.2.0 [] takes.2.3 (All-nil HasKey)))
 
     pub one_longer : length new ≡ length old + 1
     one_longer = omega (arith, ap length takes.2.1, length-append old (takes.2.0 ∷ []))

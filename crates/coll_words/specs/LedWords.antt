@@ -1,5 +1,6 @@
 -- The first numbers of a key, kept beside its word.
-use Rattle.std.specs.Prelude.{◌≡◌, ◌<◌, ℕ, ◌+◌, ◌*◌, List, [], ◌∷◌, chars, encode_utf8_all, slice_index_or}
+use Rattle.std.specs.Prelude.{◌≡◌, ◌<◌, ℕ, ◌+◌, ◌*◌, List, [], ◌∷◌, slice_index_or}
+use Rattle.std.specs.Str.{IsUtf8}
 use Rattle.coll_words.specs.declared.words.Word.TheInside.{Inside}
 use Rattle.coll_words.specs.declared.lent_words.LentWord.TheInside as lent
 
@@ -19,10 +20,10 @@ pair_at place key = slice_index_or key place 0 * 4_294_967_296 + slice_index_or 
 abbrev pub IsPair : (place : ℕ) → List ℕ → Type 0
 IsPair place key = slice_index_or key (place + 1) 0 < 4_294_967_296
 
--- the pairs that are kept of a word that is lent are the key's, and its bytes are those of its text
+-- the pairs that are kept of a word that is lent are the key's, and its bytes are those of a text
 pub record IsLedByPairs (word : lent.Inside) : Type 0 where
   pub first : word.first ≡ pair_at 0 word.key.now
   pub next : word.next ≡ pair_at 2 word.key.now
   pub first_pair : IsPair 0 word.key.now
   pub next_pair : IsPair 2 word.key.now
-  pub bytes : encode_utf8_all (chars word.text.now) ≡ word.text.now
+  pub utf8 : IsUtf8 word.text.now

@@ -1,5 +1,6 @@
 pub mod Declaring
 pub mod ElementMarks
+pub mod FirstKeys
 pub mod KeyedWords
 pub mod LedWords
 pub mod LetterWeights
@@ -15,6 +16,7 @@ pub mod Reviews
 pub mod SortRuns
 pub mod SortedWords
 pub mod StoredWords
+pub mod TiedWords
 pub mod WordOrders
 pub mod WordReading
 pub mod WordTexts

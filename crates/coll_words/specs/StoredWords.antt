@@ -1,5 +1,6 @@
 -- Words whose texts and keys stand one behind another.
-use Rattle.std.specs.Prelude.{◌≡◌, ◌≤◌, ℕ, List, All, length, map, chars, encode_utf8_all, slice_range}
+use Rattle.std.specs.Prelude.{◌≤◌, ℕ, List, All, length, map, chars, slice_range}
+use Rattle.std.specs.Str.{IsUtf8}
 use Rattle.coll_words.specs.KeyedWords.{KeyedWord}
 use Rattle.coll_words.specs.declared.stored_words.WordPlace.{WordPlace}
 
@@ -21,7 +22,7 @@ pub record IsPlace (texts keys : List ℕ) (place : WordPlace) : Type 0 where
   pub text_within : place.text_end ≤ length texts
   pub key : place.key ≤ place.key_end
   pub key_within : place.key_end ≤ length keys
-  pub utf8 : encode_utf8_all (chars (text_at texts place)) ≡ text_at texts place
+  pub utf8 : IsUtf8 (text_at texts place)
 
 -- at each place
 abbrev pub ArePlaces : (texts keys : List ℕ) → List WordPlace → Type 0

@@ -2,12 +2,11 @@
 use Rattle.std.specs.Prelude.{◌≡◌, ◌⊎◌, ◌==◌, ℕ, ◌+◌, if◌then◌else◌, List, [], ◌∷◌, ◌++◌, length, Option, Some, Result, Ok, Err}
 use Rattle.coll_devices.specs.Devices.{raised}
 use Rattle.coll_devices.specs.PhysicalLines.{lines_of}
-use Rattle.coll_nodes.specs.Table.{Collation}
 use Rattle.coll_table.specs.Loads.{IsCutBehind}
 use Rattle.coll_bench.specs.Faults.{fault_number}
 use Rattle.coll_bench.specs.BatchRuns.{Ending, ReadFailed, WriteFailed, Starved, Refused, ending_of}
 use Rattle.coll_bench.specs.declared.faults.RunFault.{RunFault}
-use Rattle.coll_words.specs.KeyedWords.{KeyedWord, IsKeyed, texts_of}
+use Rattle.coll_words.specs.KeyedWords.{KeyedWord, texts_of}
 use Rattle.coll_words.specs.Words.{line_word, words_from, words_of}
 
 -- no line is at fault
@@ -41,10 +40,10 @@ abbrev pub CountsReading : {T : Type 0} → ℕ → ℕ → Result T RunFault �
 CountsReading old new (Ok read) = new ≡ old
 CountsReading old new (Err ended) = new ≡ (if fault_number ended.fault == 67 then raised old else old)
 
--- a word more stands behind others, with its key by a table
-abbrev pub PutsWord : Collation → (old : List KeyedWord) → (text : List ℕ) → (new : List KeyedWord) → Type 0
-PutsWord table old text new = (word : KeyedWord) × (new ≡ old ++ word ∷ []) × (word.text ≡ text) × IsKeyed table word
+-- a word more stands behind others, with the key that this gives for its text
+abbrev pub PutsWord : (List ℕ → List ℕ) → (old : List KeyedWord) → (text : List ℕ) → (new : List KeyedWord) → Type 0
+PutsWord key old text new = (word : KeyedWord) × (new ≡ old ++ word ∷ []) × (word.text ≡ text) × (word.key ≡ key word.text)
 
 -- the word of a line more stands behind those of the lines before it
-abbrev pub TakesLine : Collation → (old : List KeyedWord) → (line : List ℕ) → (new : List KeyedWord) → Type 0
-TakesLine table old line new = (text : List ℕ) × (line_word (length old) line ≡ Ok text) × PutsWord table old text new
+abbrev pub TakesLine : (List ℕ → List ℕ) → (old : List KeyedWord) → (line : List ℕ) → (new : List KeyedWord) → Type 0
+TakesLine key old line new = (text : List ℕ) × (line_word (length old) line ≡ Ok text) × PutsWord key old text new

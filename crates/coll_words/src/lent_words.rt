@@ -1,14 +1,13 @@
-//! Words with their keys that are lent, which are sorted by these.
+//! Words with keys that are lent, which are sorted by these.
 //!
 //! The first four numbers of a key stand beside the word as two numbers of 64 bits. They decide nearly always, by one comparison or
 //! two, so that the key mostly needn't be looked up in memory.
 
-ghost use Rattle.std.specs.Prelude.{◌≡◌, ◌≤◌, chars, encode_utf8_all, OnErr, OnOk};
+ghost use Rattle.std.specs.Prelude.{◌≡◌, ◌≤◌, chars, OnOk};
+ghost use Rattle.std.specs.Str.{IsUtf8};
 ghost use Rattle.coll_devices.specs.Devices.{Writes};
-ghost use Rattle.coll_nodes.specs.Table.{Collation};
-ghost use Rattle.coll_words.specs.KeyedWords.{AreKeyed, texts_of};
+ghost use Rattle.coll_words.specs.KeyedWords.{AreSortedByKeys, texts_of};
 ghost use Rattle.coll_words.specs.LedWords.{IsPair, pair_at};
-ghost use Rattle.coll_words.specs.SortRuns.{SortsWords};
 ghost use Rattle.coll_words.specs.Words.{written_word, written_words};
 
 use crate::words::number_at;
@@ -18,7 +17,7 @@ use std::alloc::AllocError;
 use std::cmp::Ordering;
 use std::marker::Model;
 
-/// A word with its sort key, both of which stand elsewhere.
+/// A word with a key, both of which stand elsewhere.
 #[derive(Drop)]
 pub(crate) struct LentWord<'a> {
     // The first two numbers of the key, and the next two.
@@ -47,7 +46,7 @@ impl<'a> LentWord<'a> {
 
     /// A word with this text and this key.
     pub fn new(text: &'a [u8], key: &'a [u32]) -> LentWord<'a>
-        requires { encode_utf8_all (chars text.now) ≡ text.now }
+        requires { IsUtf8 text.now }
         ensures { result ≡ record { text = chars text.now; key = key.now } }
     {
         LentWord {
@@ -58,7 +57,23 @@ impl<'a> LentWord<'a> {
         }
     }
 
-    /// The order of the keys of two words: that of the words, where both keys are by one table. It takes no memory.
+    /// The bytes of its text.
+    pub fn text(&self) -> &'a [u8]
+        ensures text { chars result.now ≡ self.now.text }
+        ensures utf8 { IsUtf8 result.now }
+    {
+        self.text
+    }
+
+    /// Puts another text in place of its own, and leaves the key.
+    pub fn put_text(&mut self, text: &'a [u8])
+        requires { IsUtf8 text.now }
+        ensures { self.new ≡ record self.old { text = chars text.now } }
+    {
+        self.text = text;
+    }
+
+    /// The order of the keys of two words. It takes no memory.
     pub fn order(&self, other: &LentWord<'_>) -> Ordering
         ensures { result ≡ list_order self.now.key other.now.key }
     {
@@ -81,10 +96,9 @@ fn pair_at(key: &[u32], place: usize) -> u64
     u64::from(number_at(key, place)) * 4_294_967_296 + u64::from(number_at(key, place + 1))
 }
 
-/// Sorts words by their keys. Words with equal keys keep their order, and where memory is refused all do.
+/// Sorts words by their keys. Words with equal keys keep their order.
 pub(crate) fn sort_lent_words(words: &mut Vec<LentWord<'_>>) -> Result<(), AllocError>
-    ensures sorted { OnOk result (SortsWords words.old.items (texts_of words.new.items)) }
-    ensures err { OnErr result (words.new.items ≡ words.old.items) }
+    ensures { OnOk result (AreSortedByKeys words.old.items words.new.items) }
 {
     words.sort_by(|word, other| word.order(other))?;
     Ok(())

@@ -1,14 +1,14 @@
 //! Words, one a line, in the order of a collation table.
 //!
-//! A word is read with its whole sort key (`coll_key`), so that to sort words is to sort lists of numbers: no comparison of a sort
-//! looks at the table again, and none can fail. A way through the crate, each file with its definitions in `specs/`:
+//! A word is read with its sort key (`coll_key`), or with the first level of it, so that to sort words is to sort lists of numbers: no
+//! comparison of a sort looks at the table again, and none can fail. A way through the crate, each file with its definitions in `specs/`:
 //!
 //! - `packed_keys`: sort keys in half the memory, in the same order (`PackedKeys`);
 //! - `words`: a word with its key, and the sort (`KeyedWords`, `LedWords`, `SortedWords`);
 //! - `reading`: the words of an input (`Words`, `WordReading`), put into what `taking_words` says, and `word_texts`: the same without
 //!   keys (`WordTexts`);
-//! - `stored_words`: many words in few blocks of memory (`StoredWords`), their keys made by `key_rooms`; and `lent_words`, which are
-//!   sorted;
+//! - `stored_words`: many words in few blocks of memory (`StoredWords`), with what they are sorted by first, which `first_keys` makes
+//!   (`FirstKeys`); `lent_words`, which are sorted; and `tied_words`, which are sorted by their whole keys;
 //! - `sorting`: the words of an input are sorted, and written (`SortRuns`);
 //! - `reviewing`: statements are put to a table one by one, and of each it is told what it did to the words of an input
 //!   (`ReviewRuns`), over `listed_words` with the list that is sorted anew (`Neighbours`, `NumberedWords`, `ListedWords`), by
@@ -20,8 +20,8 @@
 #![tactic(auto)]
 
 mod element_marks;
+mod first_keys;
 mod kept_bytes;
-mod key_rooms;
 mod lent_words;
 mod letter_weights;
 mod letters;
@@ -37,6 +37,7 @@ mod sorting;
 mod staying_words;
 mod stored_words;
 mod taking_words;
+mod tied_words;
 mod word_orders;
 mod word_texts;
 mod words;

@@ -17,37 +17,40 @@ const SHORT_RANKS: u64 = 1_073_741_824;
 pub(crate) fn packed_key(alloc: Global, key: &[u64]) -> Result<Vec<u32>, AllocError>
     ensures { IfOk result (λ packed. packed.items ≡ packed_key key.now) }
 {
-    packed_key_in(Vec::new(alloc), key)
+    with_packed_key(Vec::new(alloc), key)
 }
 
-/// A key, packed, in the memory of another list, whose numbers are forgotten.
-pub(crate) fn packed_key_in(room: Vec<u32>, key: &[u64]) -> Result<Vec<u32>, AllocError>
-    ensures { IfOk result (λ packed. packed.items ≡ packed_key key.now) }
+/// Puts a key, packed, behind other keys.
+pub(crate) fn with_packed_key(packed: Vec<u32>, key: &[u64]) -> Result<Vec<u32>, AllocError>
+    ensures { IfOk result (λ with. with.items ≡ packed.items ++ packed_key key.now) }
 {
-    let mut packed = emptied(room, key.len())?;
+    let mut with = with_room(packed, key.len())?;
     let mut left = key;
     'numbers: while let Some((number, later)) = left.split_first() {
         left = later;
-        packed = with_packed(packed, *number, later.len())?;
+        with = with_packed(with, *number, later.len())?;
     }
-    Ok(packed)
+    Ok(with)
 }
 
-// An empty list with room for so many numbers, in the memory of another one.
+/// A list with room for so many numbers more.
 #[inline(never)]
-fn emptied(room: Vec<u32>, numbers: usize) -> Result<Vec<u32>, AllocError>
-    ensures none { IfOk result (λ list. list.items ≡ []) }
-    ensures room { IfOk result (λ list. vec_len list + numbers ≤ vec_capacity list) }
+pub(crate) fn with_room(packed: Vec<u32>, numbers: usize) -> Result<Vec<u32>, AllocError>
+    ensures same { IfOk result (λ with. with.items ≡ packed.items) }
+    ensures room { IfOk result (λ with. vec_len with + numbers ≤ vec_capacity with) }
 {
-    let mut list = room;
-    list.clear();
-    list.reserve(numbers)?;
-    Ok(list)
+    let mut with = packed;
+    with.reserve(numbers)?;
+    Ok(with)
 }
 
-// Puts a number of a key behind others, for which there is room as long as it is packed as one, and leaves room for later ones.
+/// Puts a number of a key behind others, for which there is room as long as it is packed as one, and leaves room for later ones.
 #[inline(always)]
-fn with_packed(packed: Vec<u32>, number: u64, later: usize) -> Result<Vec<u32>, AllocError>
+pub(crate) fn with_packed(
+    packed: Vec<u32>,
+    number: u64,
+    later: usize,
+) -> Result<Vec<u32>, AllocError>
     requires { vec_len packed + later + 1 ≤ vec_capacity packed }
     ensures number { IfOk result (λ with. with.items ≡ packed.items ++ packed_number number) }
     ensures room { IfOk result (λ with. vec_len with + later ≤ vec_capacity with) }

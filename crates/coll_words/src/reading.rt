@@ -12,13 +12,14 @@ ghost use Rattle.coll_ranks.specs.Ranks.{AreRanksOf};
 ghost use Rattle.coll_bench.specs.BatchOutcome.{fault_in};
 ghost use Rattle.coll_bench.specs.BatchReading.{FailsAs, WritesNone, stopped_in};
 ghost use Rattle.coll_bench.specs.BatchRuns.{ending_of};
-ghost use Rattle.coll_words.specs.KeyedWords.{AreKeyed};
+ghost use Rattle.coll_words.specs.FirstKeys.{AreFirstKeyed};
+ghost use Rattle.coll_words.specs.KeyedWords.{AreKeyed, AreKeyedBy};
 ghost use Rattle.coll_bench.specs.declared.faults.Fault.TheVariants.{Lex};
 ghost use Rattle.coll_lex.specs.declared.faults.LexFault.TheVariants.{OutOfMemory};
 ghost use Rattle.coll_words.specs.WordReading.{AreWordsOf, ReadingFails, CountsReading, TakesLine};
 ghost use Rattle.coll_words.specs.Words.{line_word};
 
-use crate::stored_words::{StoredWords, WordStore};
+use crate::stored_words::StoredWords;
 use crate::taking_words::TakesWords;
 use crate::words::Word;
 use coll_bench::{Fault, RunFault};
@@ -45,8 +46,33 @@ pub fn read_words<R: Source>(
     ensures writes { IfErr result (λ ended. WritesNone ended) }
     ensures reads { CountsReading (R.failed input.old) (R.failed input.new) result }
 {
+    match Ranks::new(alloc, table) {
+        Ok(ranks) => {
+            let read = read_listed_words(alloc, table, &ranks, input);
+            drop(ranks);
+            read
+        }
+        Err(_) => Err(no_memory(0)),
+    }
+}
+
+// Reads the words of an input, by the ranks of the table, into a list.
+fn read_listed_words<R: Source>(
+    alloc: Global,
+    table: &Table,
+    ranks: &Ranks,
+    input: &mut R,
+) -> Result<Vec<Word>, RunFault>
+    requires { AreRanksOf ranks.now (collation table.now) }
+    ensures words { IfOk result (λ words. AreWordsOf (R.left input.old) words.items) }
+    ensures fault { IfErr result (λ ended. ReadingFails (R.left input.old) (R.left input.new) ended) }
+    ensures keyed { IfOk result (λ words. AreKeyed (collation table.now) words.items) }
+    ensures input { IfErr result (λ ended. ended.input ≡ 0) }
+    ensures writes { IfErr result (λ ended. WritesNone ended) }
+    ensures reads { CountsReading (R.failed input.old) (R.failed input.new) result }
+{
     let mut words = Vec::new(alloc);
-    match read_into(alloc, table, input, &mut words) {
+    match read_by_ranks(alloc, table, ranks, input, &mut words) {
         Ok(()) => Ok(words),
         Err(ended) => {
             drop(words);
@@ -55,51 +81,28 @@ pub fn read_words<R: Source>(
     }
 }
 
-/// Reads the words of an input, in the same way, into a store of them all.
+/// Reads the words of an input, in the same way, into a store of them all, by the ranks of the table.
 pub(crate) fn read_stored_words<R: Source>(
     alloc: Global,
     table: &Table,
+    ranks: &Ranks,
     input: &mut R,
 ) -> Result<StoredWords, RunFault>
+    requires { AreRanksOf ranks.now (collation table.now) }
     ensures words { IfOk result (λ words. AreWordsOf (R.left input.old) words) }
     ensures fault { IfErr result (λ ended. ReadingFails (R.left input.old) (R.left input.new) ended) }
-    ensures keyed { IfOk result (λ words. AreKeyed (collation table.now) words) }
+    ensures keyed { IfOk result (λ words. AreFirstKeyed (collation table.now) words) }
     ensures input { IfErr result (λ ended. ended.input ≡ 0) }
     ensures writes { IfErr result (λ ended. WritesNone ended) }
     ensures reads { CountsReading (R.failed input.old) (R.failed input.new) result }
 {
-    let mut store = WordStore::new(alloc);
-    match read_into(alloc, table, input, &mut store) {
-        Ok(()) => Ok(store.into_words()),
+    let mut words = StoredWords::new(alloc);
+    match read_by_ranks(alloc, table, ranks, input, &mut words) {
+        Ok(()) => Ok(words),
         Err(ended) => {
-            drop(store);
+            drop(words);
             Err(ended)
         }
-    }
-}
-
-// Reads the words of an input, and puts them where there are none.
-fn read_into<R: Source, L: TakesWords>(
-    alloc: Global,
-    table: &Table,
-    input: &mut R,
-    words: &mut L,
-) -> Result<(), RunFault>
-    requires none { L.words words.old ≡ [] }
-    ensures words { OnOk result (AreWordsOf (R.left input.old) (L.words words.new)) }
-    ensures fault { IfErr result (λ ended. ReadingFails (R.left input.old) (R.left input.new) ended) }
-    ensures keyed { OnOk result (AreKeyed (collation table.now) (L.words words.new)) }
-    ensures input { IfErr result (λ ended. ended.input ≡ 0) }
-    ensures writes { IfErr result (λ ended. WritesNone ended) }
-    ensures reads { CountsReading (R.failed input.old) (R.failed input.new) result }
-{
-    match Ranks::new(alloc, table) {
-        Ok(ranks) => {
-            let read = read_by_ranks(alloc, table, &ranks, input, words);
-            drop(ranks);
-            read
-        }
-        Err(_) => Err(no_memory(0)),
     }
 }
 
@@ -115,7 +118,7 @@ fn read_by_ranks<R: Source, L: TakesWords>(
     requires none { L.words words.old ≡ [] }
     ensures words { OnOk result (AreWordsOf (R.left input.old) (L.words words.new)) }
     ensures fault { IfErr result (λ ended. ReadingFails (R.left input.old) (R.left input.new) ended) }
-    ensures keyed { OnOk result (AreKeyed (collation table.now) (L.words words.new)) }
+    ensures keyed { OnOk result (AreKeyedBy (L.keys (collation table.now)) (L.words words.new)) }
     ensures input { IfErr result (λ ended. ended.input ≡ 0) }
     ensures writes { IfErr result (λ ended. WritesNone ended) }
     ensures reads { CountsReading (R.failed input.old) (R.failed input.new) result }
@@ -144,7 +147,7 @@ fn read_lines<R: Source, L: TakesWords>(
     requires none { L.words words.old ≡ [] }
     ensures words { OnOk result (AreWordsOf (R.left input.old) (L.words words.new)) }
     ensures fault { IfErr result (λ ended. ReadingFails (R.left input.old) (R.left input.new) ended) }
-    ensures keyed { OnOk result (AreKeyed (collation table.now) (L.words words.new)) }
+    ensures keyed { OnOk result (AreKeyedBy (L.keys (collation table.now)) (L.words words.new)) }
     ensures input { IfErr result (λ ended. ended.input ≡ 0) }
     ensures writes { IfErr result (λ ended. WritesNone ended) }
     ensures reads { CountsReading (R.failed input.old) (R.failed input.new) result }
@@ -174,7 +177,7 @@ fn take_line<L: TakesWords>(
     requires ranks { AreRanksOf ranks.now (collation table.now) }
     requires short { length line.now ≤ most_line_bytes }
     requires few { length (L.words words.old) ≤ most_lines }
-    ensures ok { OnOk result (TakesLine (collation table.now) (L.words words.old) line.now (L.words words.new)) }
+    ensures ok { OnOk result (TakesLine (L.keys (collation table.now)) (L.words words.old) line.now (L.words words.new)) }
     ensures room { OnOk result (length (L.words words.new) ≤ most_lines) }
     ensures err { IfErr result (λ ended. FailsAs (ending_of ended) (line_word (length (L.words words.old)) line.now) ended) }
     ensures number { IfErr result (λ ended. ended.line ≡ length (L.words words.old) + 1) }

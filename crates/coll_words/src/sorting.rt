@@ -1,24 +1,30 @@
 //! The words of an input are sorted, and written.
 //!
 //! `sort_lines` carries the theorem of a sort (`SortRuns`). All lines are read before the first byte is written, and nothing is
-//! written where one is at fault.
+//! written where one is at fault. Words are sorted by the first level of their keys, and those that this doesn't tell apart by the whole
+//! keys.
 
 ghost use Rattle.std.specs.Prelude.{◌≡◌, IfErr, IfOk};
 ghost use Rattle.coll_devices.specs.Devices.{Sends};
 ghost use Rattle.coll_nodes.specs.TableLayout.{collation};
+ghost use Rattle.coll_ranks.specs.Ranks.{AreRanksOf};
 ghost use Rattle.coll_bench.specs.Serving.{CountsWrites, ReadsNone, write_failed};
+ghost use Rattle.coll_words.specs.FirstKeys.{AreFirstKeyed};
 ghost use Rattle.coll_words.specs.KeyedWords.{texts_of};
-ghost use Rattle.coll_words.specs.SortRuns.{SortRuns, SortsWords, WritesSorted};
+ghost use Rattle.coll_words.specs.SortRuns.{SortRuns, WritesSorted};
+ghost use Rattle.coll_words.specs.SortedWords.{AreSorted};
 ghost use Rattle.coll_words.specs.WordReading.{CountsReading};
 ghost use Rattle.coll_words.specs.Words.{written_words};
 
 use crate::lent_words::{LentWord, sort_lent_words, write_lent_words};
 use crate::reading::{fault_at, no_memory, read_stored_words};
 use crate::stored_words::StoredWords;
+use crate::tied_words::sort_ties;
 use coll_bench::{Fault, RunFault};
 use coll_devices::{Sink, Source, WriteStop};
+use coll_key::{KeyFault, Ranks};
 use coll_table::Table;
-use std::alloc::{AllocError, Global};
+use std::alloc::Global;
 
 /// Reads the lines of an input, and writes them in the order of a table, each with a line feed. Lines that compare equal stay in the
 /// order in which they came.
@@ -37,10 +43,33 @@ pub fn sort_lines<R: Source, W: Sink>(
     ensures reads { CountsReading (R.failed input.old) (R.failed input.new) result }
     ensures writes { CountsWrites (W.failed output.old) (W.failed output.new) result }
 {
-    table.lemma_well_formed();
-    match read_stored_words(alloc, table, input) {
+    match Ranks::new(alloc, table) {
+        Ok(ranks) => {
+            let wrote = sort_by_ranks(alloc, table, &ranks, input, output);
+            drop(ranks);
+            wrote
+        }
+        Err(_) => Err(no_memory(0)),
+    }
+}
+
+// Reads the lines of an input, and writes them in the order of a table, by its ranks.
+fn sort_by_ranks<R: Source, W: Sink>(
+    alloc: Global,
+    table: &Table,
+    ranks: &Ranks,
+    input: &mut R,
+    output: &mut W,
+) -> Result<(), RunFault>
+    requires { AreRanksOf ranks.now (collation table.now) }
+    ensures run { SortRuns (collation table.now) (R.left input.old) (R.left input.new) (W.taken output.old) (W.taken output.new) result }
+    ensures input { IfErr result (λ ended. ended.input ≡ 0) }
+    ensures reads { CountsReading (R.failed input.old) (R.failed input.new) result }
+    ensures writes { CountsWrites (W.failed output.old) (W.failed output.new) result }
+{
+    match read_stored_words(alloc, table, ranks, input) {
         Ok(words) => {
-            let wrote = write_sorted(alloc, &words, output);
+            let wrote = write_sorted(alloc, table, ranks, &words, output);
             drop(words);
             wrote
         }
@@ -49,28 +78,46 @@ pub fn sort_lines<R: Source, W: Sink>(
 }
 
 // Sorts words, and writes them.
-fn write_sorted<W: Sink>(alloc: Global, words: &StoredWords, output: &mut W) -> Result<(), RunFault>
-    ensures run { WritesSorted words.now (W.taken output.old) (W.taken output.new) result }
+fn write_sorted<W: Sink>(
+    alloc: Global,
+    table: &Table,
+    ranks: &Ranks,
+    words: &StoredWords,
+    output: &mut W,
+) -> Result<(), RunFault>
+    requires ranks { AreRanksOf ranks.now (collation table.now) }
+    requires keyed { AreFirstKeyed (collation table.now) words.now }
+    ensures run { WritesSorted (collation table.now) words.now (W.taken output.old) (W.taken output.new) result }
     ensures input { IfErr result (λ ended. ended.input ≡ 0) }
     ensures reads { IfErr result (λ ended. ReadsNone ended) }
     ensures writes { CountsWrites (W.failed output.old) (W.failed output.new) result }
 {
-    match sorted(alloc, words) {
+    match sorted(alloc, table, ranks, words) {
         Ok(lent) => {
             let wrote = write_all(&lent, output);
             drop(lent);
             wrote
         }
+        // For lack of memory: no line is long enough to have a word without a key.
         Err(_) => Err(no_memory(0)),
     }
 }
 
 // Lends words in their order.
-fn sorted(alloc: Global, words: &StoredWords) -> Result<Vec<LentWord<'_>>, AllocError>
-    ensures { IfOk result (λ lent. SortsWords words.now (texts_of lent.items)) }
+fn sorted<'a>(
+    alloc: Global,
+    table: &Table,
+    ranks: &Ranks,
+    words: &'a StoredWords,
+) -> Result<Vec<LentWord<'a>>, KeyFault>
+    requires ranks { AreRanksOf ranks.now (collation table.now) }
+    requires keyed { AreFirstKeyed (collation table.now) words.now }
+    ensures { IfOk result (λ lent. AreSorted (collation table.now) (texts_of words.now) (texts_of lent.items)) }
 {
+    table.lemma_well_formed();
     let mut lent = words.lend(alloc)?;
     sort_lent_words(&mut lent)?;
+    sort_ties(alloc, table, ranks, &mut lent)?;
     Ok(lent)
 }
 

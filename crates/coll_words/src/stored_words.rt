@@ -1,21 +1,27 @@
-//! Words with their keys, all of them in three blocks of memory.
+//! Words with what they are sorted by first, all of them in three blocks of memory.
 //!
 //! A word by itself (`words`) has memory of its own for its key, and for a long text. Here all texts stand one behind another, and so
-//! do all keys, and a word is where its own begin and end: so many words ask for hardly more blocks than one, and take less. What
-//! is kept of a word, and what is looked at first, may change; `lent_words` has the sort.
+//! do all keys, and a word is where its own begin and end: so many words ask for hardly more blocks than one, and take less. A key is
+//! what `first_keys` makes, right where it stays; `lent_words` has the sort.
 
-ghost use Rattle.std.specs.Prelude.{◌≡◌, ◌≤◌, [], ◌∷◌, ◌++◌, chars, length, IfErr, IfOk, OnOk};
+ghost use Rattle.std.specs.Prelude.{◌≡◌, ◌≢◌, ◌≤◌, [], ◌∷◌, ◌++◌, chars, length, true, false, IfErr, IfOk, OnOk};
+ghost use Rattle.coll_nodes.specs.TableLayout.{collation};
+ghost use Rattle.coll_ranks.specs.Ranks.{AreRanksOf};
+ghost use Rattle.coll_key.specs.KeyLimits.{is_too_long};
+ghost use Rattle.coll_key.specs.declared.key_faults.KeyFault.TheVariants.{OutOfMemory};
+ghost use Rattle.coll_words.specs.FirstKeys.{packed_first_key};
 ghost use Rattle.coll_words.specs.StoredWords.{ArePlaces, IsPlace, word_at, words_at};
 
-use crate::key_rooms::KeyRoom;
+use crate::first_keys::with_first_key;
 use crate::lent_words::LentWord;
-use crate::reading::{fault_at, no_memory};
+use crate::reading::fault_at;
 use crate::taking_words::TakesWords;
 use coll_bench::{Fault, RunFault};
-use coll_key::Ranks;
+use coll_key::{KeyFault, Ranks};
 use coll_table::Table;
 use std::alloc::{AllocError, Global};
 use std::marker::Model;
+use std::mem::replace;
 
 /// Where the text and the key of a word stand.
 #[derive(Clone, Copy)]
@@ -26,7 +32,7 @@ struct WordPlace {
     key_end: usize,
 }
 
-/// Words with their keys.
+/// Words with what they are sorted by first.
 #[derive(Drop)]
 pub(crate) struct StoredWords {
     // The texts, in UTF-8.
@@ -67,21 +73,42 @@ impl StoredWords {
         self.places.len()
     }
 
-    /// Puts a word behind the others, with this key. Where memory is refused, they stay.
-    pub fn put(&mut self, text: &str, key: &[u32]) -> Result<(), AllocError>
-        ensures { OnOk result (self.new ≡ self.old ++ record { text = chars text.now; key = key.now } ∷ []) }
+    /// Puts a text behind the others, with what it is sorted by first by a table. Where memory is refused, the words are given up.
+    ///
+    /// The ranks must be those of the table as it stands.
+    pub fn put_text(
+        &mut self,
+        alloc: Global,
+        table: &Table,
+        ranks: &Ranks,
+        text: &str,
+    ) -> Result<(), KeyFault>
+        requires { AreRanksOf ranks.now (collation table.now) }
+        ensures word { OnOk result (self.new ≡ self.old
+            ++ record { text = chars text.now; key = packed_first_key (collation table.now) (chars text.now) } ∷ []) }
+        ensures short { OnOk result (is_too_long (chars text.now) ≡ false) }
+        ensures err { IfErr result (λ fault. fault ≢ OutOfMemory → is_too_long (chars text.now) ≡ true) }
     {
         let (text_start, key_start) = (self.texts.len(), self.keys.len());
+        self.places.reserve(1)?;
         self.texts.extend_from_slice(text.as_bytes())?;
-        self.keys.extend_from_slice(key)?;
-        let place = WordPlace {
-            text: text_start,
-            text_end: self.texts.len(),
-            key: key_start,
-            key_end: self.keys.len(),
-        };
-        self.places.push(place)?;
-        Ok(())
+        let keys = replace(&mut self.keys, Vec::new(alloc));
+        match with_first_key(alloc, table, ranks, keys, text) {
+            Ok(keys) => {
+                self.keys = keys;
+                self.places.push_reserved(WordPlace {
+                    text: text_start,
+                    text_end: self.texts.len(),
+                    key: key_start,
+                    key_end: self.keys.len(),
+                });
+                Ok(())
+            }
+            Err(fault) => {
+                self.places.clear();
+                Err(fault)
+            }
+        }
     }
 
     /// Lends the words one by one, in a list in new memory.
@@ -120,39 +147,13 @@ fn lent<'a>(texts: &'a [u8], keys: &'a [u32], place: &WordPlace) -> LentWord<'a>
     )
 }
 
-/// Words that are read, and the room in which their keys are made.
-#[derive(Drop)]
-pub(crate) struct WordStore {
-    words: StoredWords,
-    room: KeyRoom,
-}
+impl TakesWords for StoredWords {
+    ghost words = { λ words. words };
 
-impl WordStore {
-    /// No words. It takes no memory.
-    pub fn new(alloc: Global) -> WordStore
-        ensures { result.words ≡ [] }
-    {
-        WordStore {
-            words: StoredWords::new(alloc),
-            room: KeyRoom::new(alloc),
-        }
-    }
-
-    /// The words.
-    pub fn into_words(self) -> StoredWords
-        ensures { result ≡ self.words }
-    {
-        let WordStore { words, room } = self;
-        drop(room);
-        words
-    }
-}
-
-impl TakesWords for WordStore {
-    ghost words = { λ store. store.words };
+    ghost keys = { packed_first_key };
 
     fn count(&self) -> usize {
-        self.words.len()
+        self.len()
     }
 
     fn put(
@@ -163,11 +164,8 @@ impl TakesWords for WordStore {
         number: u32,
         text: &str,
     ) -> Result<(), RunFault> {
-        match self.room.key(alloc, table, ranks, text) {
-            Ok(key) => match self.words.put(text, key) {
-                Ok(()) => Ok(()),
-                Err(_) => Err(no_memory(number)),
-            },
+        match self.put_text(alloc, table, ranks, text) {
+            Ok(()) => Ok(()),
             Err(fault) => Err(fault_at(number, Fault::Key(fault))),
         }
     }

@@ -3,7 +3,8 @@
 //! The lines of an input are read by `reading`, whatever their words are put into: a list of words, each of which has memory of its
 //! own (`words`), or a store of them all (`stored_words`).
 
-ghost use Rattle.std.specs.Prelude.{◌≡◌, List, chars, length, false, IfErr, OnOk};
+ghost use Rattle.std.specs.Prelude.{◌≡◌, ℕ, List, chars, length, false, IfErr, OnOk};
+ghost use Rattle.coll_nodes.specs.Table.{Collation};
 ghost use Rattle.coll_nodes.specs.TableLayout.{collation};
 ghost use Rattle.coll_ranks.specs.Ranks.{AreRanksOf};
 ghost use Rattle.coll_key.specs.KeyLimits.{is_too_long};
@@ -22,6 +23,9 @@ use std::alloc::Global;
 pub(crate) trait TakesWords {
     ghost words: { Self → List KeyedWord };
 
+    // The key that a text gets by a table.
+    ghost keys: { Collation → List ℕ → List ℕ };
+
     /// How many words were taken.
     fn count(&self) -> usize
         ensures { result ≡ length (words self.now) };
@@ -36,7 +40,7 @@ pub(crate) trait TakesWords {
         text: &str,
     ) -> Result<(), RunFault>
         requires ranks { AreRanksOf ranks.now (collation table.now) }
-        ensures ok { OnOk result (PutsWord (collation table.now) (words self.old) (chars text.now) (words self.new)) }
+        ensures ok { OnOk result (PutsWord (keys (collation table.now)) (words self.old) (chars text.now) (words self.new)) }
         ensures short { OnOk result (is_too_long (chars text.now) ≡ false) }
         ensures err { IfErr result (λ ended. FailsAs (ending_of ended) (unless_long number (chars text.now)) ended) }
         ensures number { IfErr result (λ ended. ended.line ≡ number) }

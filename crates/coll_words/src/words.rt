@@ -4,7 +4,9 @@ ghost use Rattle.std.specs.Prelude.{◌≡◌, slice_index_or, OnOk, OnErr};
 ghost use Rattle.coll_devices.specs.Devices.{Writes};
 ghost use Rattle.coll_nodes.specs.Table.{Collation};
 ghost use Rattle.coll_words.specs.KeyedWords.{AreKeyed, texts_of};
+ghost use Rattle.coll_key.specs.SortKey.{key_of};
 ghost use Rattle.coll_words.specs.LedWords.{lead_of};
+ghost use Rattle.coll_words.specs.PackedKeys.{packed_key};
 ghost use Rattle.coll_words.specs.SortRuns.{SortsWords};
 ghost use Rattle.coll_words.specs.Words.{written_word, written_words};
 
@@ -54,7 +56,6 @@ impl Word {
     ghost use Rattle.coll_key.specs.TextOrder.{list_order};
     ghost use Rattle.coll_key.specs.declared.key_faults.KeyFault.TheVariants.{OutOfMemory};
     ghost use Rattle.coll_words.specs.KeyedWords.{IsKeyed};
-    ghost use Rattle.coll_words.specs.PackedKeys.{packed_key};
 
     /// The word of a text, with its key by a table, in new memory.
     ///
@@ -126,6 +127,8 @@ pub(crate) fn number_at(key: &[u32], place: usize) -> u32
 
 impl TakesWords for Vec<Word> {
     ghost words = { λ words. words.items };
+
+    ghost keys = { λ table text. packed_key (key_of table text) };
 
     fn count(&self) -> usize {
         self.len()

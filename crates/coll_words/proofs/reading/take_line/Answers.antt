@@ -20,7 +20,7 @@ pub returns-in-Ok-clause-ok : goal.returns-in-Ok-clause-ok
 returns-in-Ok-clause-ok g c =
     let words = g.L.TakesWords.words c.args.words.now in
     let number : c.next_number-number.result ≡ length words + 1 = c.next_number-number.ensures ∙ ap (λ (n : ℕ). n + 1) c.count.ensures in
-    takes (collation c.args.table.now) words (g.L.TakesWords.words c.put.new.self) c.args.line.now (chars c.in-Ok.text.now) c.put.result c.put.ensures.ok c.put.ensures.short
+    takes (g.L.TakesWords.keys (collation c.args.table.now)) words (g.L.TakesWords.words c.put.new.self) c.args.line.now (chars c.in-Ok.text.now) c.put.result c.put.ensures.ok c.put.ensures.short
     (line_of_word (length words) c.next_number-number.result c.args.line.now c.in-Ok.text.now number c.requires.short (omega (arith, c.if-number-gt-MOST_LINES.false))
     (c.in-Ok.ensures.cases.0 ∙ c.without_return.ensures) (subst IsUtf8 c.without_return.ensures c.in-Ok.ensures.cases.1))
 

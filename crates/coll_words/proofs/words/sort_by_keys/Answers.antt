@@ -3,8 +3,8 @@ use Rattle.std.proofs.Common.{ap, rules}
 use Rattle.std.specs.Ordering.{is_lt}
 use Rattle.std.proofs.lemmas.Cmp.{nat_list_cmp_total}
 use Rattle.std.proofs.lemmas.List.Sorted.{answers_always, ranks_by}
-use Rattle.coll_words.specs.KeyedWords.{KeyedWord}
-use Rattle.coll_words.proofs.SortedLemmas.{has_less_key, keyed_still, sorts_words}
+use Rattle.coll_words.specs.KeyedWords.{KeyedWord, has_less_key}
+use Rattle.coll_words.proofs.SortedLemmas.{keyed_still, sorts_words}
 use Rattle.coll_words.proofs.words.sort_by_keys.Goals as goal
 
 pub returns-clause-sorted : goal.returns-clause-sorted

@@ -2,12 +2,12 @@
 use Rattle.std.proofs.Common.{◌≡◌, ◌≤◌, ◌+◌, ◌++◌, length}
 use Rattle.std.specs.Prelude.{vec_len, vec_capacity}
 use Rattle.coll_words.specs.PackedKeys.{packed_key}
-use Rattle.coll_words.proofs.packed_keys.packed_key_in.Given as goal
+use Rattle.coll_words.proofs.packed_keys.with_packed_key.Given as goal
 
 abbrev pub invariant-numbers : goal.invariant-numbers
 invariant-numbers l = record {
-  same : packed_key l.key ≡ l.packed.items ++ packed_key l.left;
-  room : vec_len l.packed + length l.left ≤ vec_capacity l.packed;
+  same : l.initial.with.items ++ packed_key l.key ≡ l.with.items ++ packed_key l.left;
+  room : vec_len l.with + length l.left ≤ vec_capacity l.with;
 }
 
 abbrev pub decreases-numbers : goal.decreases-numbers

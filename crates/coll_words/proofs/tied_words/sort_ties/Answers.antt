@@ -1,0 +1,10 @@
+-- One run more is sorted.
+use Rattle.coll_nodes.specs.TableLayout.{collation}
+use Rattle.coll_words.proofs.TiedLemmas.{sorted_on}
+use Rattle.coll_words.proofs.tied_words.sort_ties.Goals as goal
+
+pub runs-preserved : goal.runs-preserved
+runs-preserved c =
+    let run = c.run_end-end.ensures in
+    sorted_on (collation c.args.table.now) c.lemma_well_formed.ensures.well_formed c.args.words.now c.runs.words c.runs.start c.run_end-end.result c.requires.keyed c.requires.sorted
+    c.runs.invariant run.behind run.within run.ends c.sort_run.new.run c.in_default.ensures
