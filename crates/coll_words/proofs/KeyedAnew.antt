@@ -2,14 +2,15 @@
 use Rattle.std.proofs.Common.{◌≡◌, ℕ, zero, suc, List, [], ◌∷◌, ◌++◌, length, map, set, get_or, refl, sym, ap, subst, ◌∙◌}
 use Rattle.std.specs.Prelude.{OnOk, Result, Ok, Err}
 use Rattle.std.specs.List.{swap}
-use Rattle.std.specs.List.Sorted.{IsPermutation, SwapsInRange, apply_swaps}
+use Rattle.std.specs.List.Sorted.{IsPermutation, IsSorted, SwapsInRange, apply_swaps}
 use Rattle.std.proofs.lemmas.List.{map-append, map-set, length-map}
-use Rattle.std.proofs.lemmas.List.Sorted.{IsPermutation-sym, IsPermutation-trans, IsPermutation-append_right}
+use Rattle.std.proofs.lemmas.List.Sorted.{IsPermutation-refl, IsPermutation-sym, IsPermutation-trans, IsPermutation-append_right}
 use Rattle.coll_nodes.specs.Table.{Collation}
 use Rattle.coll_key.specs.declared.key_faults.KeyFault.{KeyFault}
-use Rattle.coll_words.specs.ListedWords.{IsSortedAnew, all_numbered, led_by, numbered_of, unkeyed}
+use Rattle.coll_words.specs.ListedWords.{IsSortedAgain, IsSortedAnew, all_numbered, led_by, numbered_of, unkeyed}
 use Rattle.coll_words.specs.MovedWords.{IsSortedFromLast, StandInOrder}
 use Rattle.coll_words.specs.Neighbours.{NumberedWord}
+use Rattle.coll_words.specs.NumberedWords.{line_order}
 use Rattle.coll_words.specs.declared.listed_words.ListedWord.{ListedWord}
 
 -- Exchanges go through what is read of each member.
@@ -80,23 +81,48 @@ numbered_read (listed ∷ list) = ap (λ (l : List NumberedWord). numbered_of li
 pub numbered_alike : (list other : List ListedWord) → map unkeyed list ≡ map unkeyed other → all_numbered list ≡ all_numbered other
 numbered_alike list other same = numbered_read list ∙ ap (map (λ (u : Unkeyed). u.0)) same ∙ sym (numbered_read other)
 
--- a list that was led and taken apart, of which some words were sorted, and both put together
-pub anew_moved : (table : Collation) (old led kept moved sorted new : List ListedWord) → led ≡ led_by zero old → all_numbered led ≡ all_numbered old → IsPermutation led (kept ++ moved)
-    → IsSortedFromLast table moved sorted → IsPermutation (kept ++ sorted) new → StandInOrder table new → IsSortedAnew table old new
-anew_moved table old led kept moved sorted new led_is still apart sorts together ordered =
+-- a list that was taken apart, of which some words were sorted, and both put together
+pub again_moved : (table : Collation) (old kept moved sorted new : List ListedWord) → IsPermutation old (kept ++ moved) → IsSortedFromLast table moved sorted
+    → IsPermutation (kept ++ sorted) new → StandInOrder table new → IsSortedAgain table old new
+again_moved table old kept moved sorted new apart sorts together ordered =
     let alike : map unkeyed (kept ++ sorts.keyed) ≡ map unkeyed (kept ++ moved) =
     map-append unkeyed kept sorts.keyed ∙ ap (λ (l : List Unkeyed). map unkeyed kept ++ l) sorts.same ∙ sym (map-append unkeyed kept moved) in
-    let from = moved_with unkeyed led (kept ++ moved) (kept ++ sorts.keyed) apart alike in
+    let from = moved_with unkeyed old (kept ++ moved) (kept ++ sorts.keyed) apart alike in
     record {
-      from = from.list;
-      same = numbered_alike from.list led from.reads ∙ still;
-      moved = subst (λ (l : List ListedWord). IsPermutation l new) (sym (led_so zero from.list old (from.reads ∙ ap (map unkeyed) led_is)))
-          (IsPermutation-trans _ _ _ from.moved (IsPermutation-trans _ _ _ (IsPermutation-append_right kept _ _ sorts.moved) together));
+      keyed = from.list;
+      same = from.reads;
+      moved = IsPermutation-trans _ _ _ from.moved (IsPermutation-trans _ _ _ (IsPermutation-append_right kept _ _ sorts.moved) together);
       ordered = ordered;
     }
 
 -- the same, where putting together may lack memory
-pub anew_put : (table : Collation) (old led kept moved sorted new : List ListedWord) (r : Result (Unit {0}) KeyFault) → led ≡ led_by zero old → all_numbered led ≡ all_numbered old
-    → IsPermutation led (kept ++ moved) → IsSortedFromLast table moved sorted → OnOk r (IsPermutation (kept ++ sorted) new) → OnOk r (StandInOrder table new) → OnOk r (IsSortedAnew table old new)
-anew_put table old led kept moved sorted new (Ok done) led_is still apart sorts together ordered = anew_moved table old led kept moved sorted new led_is still apart sorts together ordered
-anew_put table old led kept moved sorted new (Err fault) led_is still apart sorts together ordered = tt
+pub again_put : (table : Collation) (old kept moved sorted new : List ListedWord) (r : Result (Unit {0}) KeyFault) → IsPermutation old (kept ++ moved)
+    → IsSortedFromLast table moved sorted → OnOk r (IsPermutation (kept ++ sorted) new) → OnOk r (StandInOrder table new) → OnOk r (IsSortedAgain table old new)
+again_put table old kept moved sorted new (Ok done) apart sorts together ordered = again_moved table old kept moved sorted new apart sorts together ordered
+again_put table old kept moved sorted new (Err fault) apart sorts together ordered = tt
+
+-- a list that is in order
+pub again_in_order : (table : Collation) (list : List ListedWord) → IsSorted (line_order table) (all_numbered list) → IsSortedAgain table list list
+again_in_order table list ordered = record { keyed = list; same = refl; moved = IsPermutation-refl list; ordered = ordered }
+
+-- a list that was put into another order before
+pub again_behind : (table : Collation) (old between new : List ListedWord) → IsPermutation old between → IsSortedAgain table between new → IsSortedAgain table old new
+again_behind table old between new apart sorts =
+    let from = moved_with unkeyed old between sorts.keyed apart sorts.same in
+    record { keyed = from.list; same = from.reads; moved = IsPermutation-trans _ _ _ from.moved sorts.moved; ordered = sorts.ordered }
+
+pub again_behind_if : (table : Collation) (old between new : List ListedWord) (r : Result (Unit {0}) KeyFault) → IsPermutation old between → OnOk r (IsSortedAgain table between new)
+    → OnOk r (IsSortedAgain table old new)
+again_behind_if table old between new (Ok done) apart sorts = again_behind table old between new apart sorts
+again_behind_if table old between new (Err fault) apart sorts = tt
+
+-- a list that was led before
+pub anew_led : (table : Collation) (old led new : List ListedWord) (r : Result (Unit {0}) KeyFault) → led ≡ led_by zero old → all_numbered led ≡ all_numbered old → OnOk r (IsSortedAgain table led new)
+    → OnOk r (IsSortedAnew table old new)
+anew_led table old led new (Ok done) led_is still sorts = record {
+  from = sorts.keyed;
+  same = numbered_alike sorts.keyed led sorts.same ∙ still;
+  moved = subst (λ (l : List ListedWord). IsPermutation l new) (sym (led_so zero sorts.keyed old (sorts.same ∙ ap (map unkeyed) led_is))) sorts.moved;
+  ordered = sorts.ordered;
+}
+anew_led table old led new (Err fault) led_is still sorts = tt

@@ -3,10 +3,11 @@ use Rattle.std.proofs.Common.{◌≡◌, inl, inr, ⊎_elim, ℕ, zero, suc, ◌
 use Rattle.std.specs.Prelude.{slice_index_or}
 use Rattle.std.specs.List.{flat_map}
 use Rattle.std.proofs.lemmas.Bool.{eqb-true}
-use Rattle.std.specs.Ordering.{is_ne, nat_cmp, ordering_then}
+use Rattle.std.specs.Ordering.{is_ne, nat_cmp, ordering_reverse, ordering_then}
 use Rattle.std.specs.declared.cmp.Ordering.{Ordering}
 use Rattle.std.specs.declared.cmp.Ordering.TheVariants.{Less, Equal, Greater}
 use Rattle.std.specs.Cmp.{nat_cmp_is}
+use Rattle.std.proofs.lemmas.Cmp.{nat_list_cmp_total}
 use Rattle.std.proofs.lemmas.List.{map-append}
 use Rattle.std.proofs.lemmas.List.Elements.{All-append, All-cons, All-nil}
 use Rattle.std.specs.Str.{IsUtf8}
@@ -30,65 +31,47 @@ use Rattle.coll_ranks.proofs.LevelRows.{rows_of_elements}
 use Rattle.coll_nodes.specs.WellFormed.{IsWellFormed}
 use Rattle.coll_key.proofs.KeyOrder.{keys_in_order}
 use Rattle.coll_key.specs.SortKey.{key_of}
-use Rattle.coll_key.specs.LevelList.{items, items_of, level_list, level_lists_from, listed}
+use Rattle.coll_key.proofs.OrderLemmas.{order_from}
+use Rattle.coll_key.specs.LevelList.{items, items_of, level_list, level_lists_from, listed, position_of}
 use Rattle.coll_key.specs.TextOrder.{first_difference, level_lists, list_order, order_of}
 use Rattle.coll_words.specs.ElementMarks.{AreAlone, AreMarked, AreMarks, BeginsOther, GoesOnOther, IsApart, IsSameAt, KeepMarks, StandsAlone, TellsOf}
-use Rattle.coll_words.specs.LetterWeights.{BeginsPlain, DecidesFirst, GoesOn, IsFirstLetter, IsLetterRow, IsRowOf, IsStep, IsStepAtEnd, IsStepOfBoth, first_numbers, text_numbers}
+use Rattle.coll_words.specs.LetterWeights.{BeginWith, DecidesBoth, GoesOn, IsFirstLetter, IsLetterRow, IsOrderToText, IsRowOf, IsStep, IsStepAtEnd, IsStepOfBoth, IsStepOfParts, LeavesParts, OrdersAlike, OrdersSo, PartsAlike, list_behind, order_at_end, order_behind, order_of_parts, text_items, text_numbers}
 use Rattle.coll_words.specs.declared.element_marks.ElementMarks.{ElementMarks}
 use Rattle.coll_words.specs.declared.letter_weights.FirstLetter.{FirstLetter}
 use Rattle.coll_words.specs.declared.letter_weights.LetterRow.{LetterRow}
 use Rattle.coll_words.specs.declared.letter_weights.LetterStep.{LetterStep}
 use Rattle.coll_words.specs.declared.letter_weights.LetterStep.TheVariants.{Decided, Later, Unknown}
 
--- The first level.
+-- One level after another.
 
--- without positions the numbers of a level stand one behind another
-numbers_listed : (ns : List ℕ) (xs : List (Option ℕ)) (l : List ℕ) → ((gaps : ℕ) → listed false gaps xs ≡ l) → (gaps : ℕ) → listed false gaps (items_of ns ++ xs) ≡ ns ++ l
-numbers_listed [] xs l h gaps = h (suc gaps)
-numbers_listed (n ∷ ns) xs l h gaps = ap (λ (k : List ℕ). n ∷ k) (some ns)
-  where
-    some : (ms : List ℕ) → listed false 0 (map Some ms ++ xs) ≡ ms ++ l
-    some [] = h 0
-    some (m ∷ ms) = ap (λ (k : List ℕ). m ∷ k) (some ms)
+-- the items of elements are those of their numbers
+items_by_numbers : {P : Type 0} (f : P → List ℕ) (ps : List P) → items f ps ≡ flat_map items_of (map f ps)
+items_by_numbers f [] = refl
+items_by_numbers f (p ∷ ps) = ap (λ (xs : List (Option ℕ)). items_of (f p) ++ xs) (items_by_numbers f ps)
 
-all_listed : {P : Type 0} (f : P → List ℕ) (ps : List P) (gaps : ℕ) → listed false gaps (items f ps) ≡ flat_map f ps
-all_listed f [] gaps = refl
-all_listed f (p ∷ ps) gaps = numbers_listed (f p) (items f ps) (flat_map f ps) (all_listed f ps) gaps
+-- the list of a level that is looked at from the front
+forward_list : (table : Collation) (level : ℕ) (rule : Rule) → rule.backward ≡ false → (text : List ℕ)
+    → level_list rule (numbers_at table level) (elements_of table text) ≡ list_behind table level rule.position 0 text
+forward_list table level rule forward text =
+    rw forward (ap (listed rule.position 0) (items_by_numbers (numbers_at table level) (elements_of table text)))
 
-plain_level : {P : Type 0} (rule : Rule) → rule.backward ≡ false → rule.position ≡ false → (f : P → List ℕ) (ps : List P) → level_list rule f ps ≡ flat_map f ps
-plain_level rule forward unplaced f ps = rw (forward, unplaced) (all_listed f ps 0)
+-- how a level orders two texts
+pub level_orders : (table : Collation) (level : ℕ) (rule : Rule) (text other : List ℕ) (order : Ordering) → rule.backward ≡ false → OrdersSo table level text other order
+    → order ≡ list_order (level_list rule (numbers_at table level) (elements_of table text)) (level_list rule (numbers_at table level) (elements_of table other))
+level_orders table level rule text other order forward orders =
+    orders rule.position 0
+    ∙ ap (λ (l : List ℕ). list_order l (list_behind table level rule.position 0 other)) (sym (forward_list table level rule forward text))
+    ∙ ap (list_order (level_list rule (numbers_at table level) (elements_of table text))) (sym (forward_list table level rule forward other))
 
-joined : {P : Type 0} (f : P → List ℕ) (ps : List P) → flat_map (λ (ns : List ℕ). ns) (map f ps) ≡ flat_map f ps
-joined f [] = refl
-joined f (p ∷ ps) = ap (λ (l : List ℕ). f p ++ l) (joined f ps)
+-- the order of two texts is that of all their levels
+pub order_by_levels : (table : Collation) (text other : List ℕ) → order_of table text other ≡ order_from (numbers_at table) (elements_of table text) (elements_of table other) 0 table.rules
+unfolding order_of level_lists
+order_by_levels table text other = refl
 
 decided : (order later : Ordering) → is_ne order ≡ true → order ≡ ordering_then order later
 decided Less later ne = refl
 decided Equal later ne = absurd cc
 decided Greater later ne = refl
-
-by_rules : {P : Type 0} (rules : List Rule) (f : ℕ → P → List ℕ) (ps qs : List P) (order : Ordering) → BeginsPlain rules → order ≡ list_order (flat_map (f 0) ps) (flat_map (f 0) qs)
-    → is_ne order ≡ true → order ≡ first_difference (level_lists_from rules 0 f ps) (level_lists_from rules 0 f qs)
-by_rules [] f ps qs order plain is ne = absurd plain
-by_rules (rule ∷ rules) f ps qs order plain is ne =
-    let later = first_difference (level_lists_from rules 1 f ps) (level_lists_from rules 1 f qs) in
-    let here : order ≡ list_order (level_list rule (f 0) ps) (level_list rule (f 0) qs) =
-    is ∙ ap (λ (l : List ℕ). list_order l (flat_map (f 0) qs)) (sym (plain_level rule plain.0 plain.1 (f 0) ps))
-    ∙ ap (list_order (level_list rule (f 0) ps)) (sym (plain_level rule plain.0 plain.1 (f 0) qs)) in
-    decided order later ne ∙ ap (λ (o : Ordering). ordering_then o later) here
-
--- what the first level decides is the order of the texts
-pub order_first : (table : Collation) (text other : List ℕ) (order : Ordering) → BeginsPlain table.rules → DecidesFirst table text other order → order ≡ order_of table text other
-unfolding order_of level_lists
-order_first table text other order plain decides =
-    by_rules table.rules (numbers_at table) (elements_of table text) (elements_of table other) order plain
-    (decides.order_is ∙ ap (λ (l : List ℕ). list_order l (first_numbers table other)) (joined (numbers_at table 0) (elements_of table text))
-    ∙ ap (list_order (flat_map (numbers_at table 0) (elements_of table text))) (joined (numbers_at table 0) (elements_of table other)))
-    decides.decides
-
-pub some_levels : (rules : List Rule) → BeginsPlain rules → 0 < length rules
-some_levels [] plain = absurd plain
-some_levels (rule ∷ rules) plain = omega arith
 
 -- Characters.
 
@@ -109,9 +92,9 @@ letter_first table weights c row text rest is alone has level within =
     ∙ ap (λ (ns : List ℕ). ns ∷ text_numbers table level rest) (sym (has.numbers level within))
 
 -- no text has no numbers
-pub none_first : (table : Collation) → first_numbers table [] ≡ []
+none_behind : (table : Collation) (level : ℕ) (position : Bool) (gaps : ℕ) → list_behind table level position gaps [] ≡ []
 unfolding elements_of
-none_first table = refl
+none_behind table level position gaps = refl
 
 -- Steps.
 
@@ -120,26 +103,48 @@ pub same_front : (ns xs ys : List ℕ) → list_order (ns ++ xs) (ns ++ ys) ≡ 
 same_front [] xs ys = refl
 same_front (n ∷ ns) xs ys = ap (λ (o : Ordering). ordering_then o (list_order (ns ++ xs) (ns ++ ys))) (sym (nat_cmp_is n n Equal refl)) ∙ same_front ns xs ys
 
-pub same_numbers : (ns ms xs ys : List ℕ) → ns ≡ ms → list_order (ns ++ xs) (ms ++ ys) ≡ list_order xs ys
-same_numbers ns ms xs ys same = ap (λ (l : List ℕ). list_order (ns ++ xs) (l ++ ys)) (sym same) ∙ same_front ns xs ys
-
 not_ne : (o later : Ordering) → is_ne o ≡ false → ordering_then o later ≡ later
 not_ne Less later eq = absurd cc
 not_ne Equal later eq = refl
 not_ne Greater later eq = absurd cc
 
+-- a number behind as many gaps in both
+same_number : (position : Bool) (gaps n : ℕ) (xs ys : List ℕ) → list_order (position_of position gaps ++ n ∷ xs) (position_of position gaps ++ n ∷ ys) ≡ list_order xs ys
+same_number position gaps n xs ys = same_front (position_of position gaps) (n ∷ xs) (n ∷ ys) ∙ same_front (n ∷ []) xs ys
+
+-- numbers without a gap before them
+same_some : (position : Bool) (ns : List ℕ) (xs ys : List (Option ℕ)) → list_order (listed position 0 (map Some ns ++ xs)) (listed position 0 (map Some ns ++ ys))
+    ≡ list_order (listed position 0 xs) (listed position 0 ys)
+same_some position [] xs ys = refl
+same_some position (n ∷ ns) xs ys =
+    same_number position 0 n (listed position 0 (map Some ns ++ xs)) (listed position 0 (map Some ns ++ ys)) ∙ same_some position ns xs ys
+
+-- the same element leaves it to what comes later
+same_element : (position : Bool) (gaps : ℕ) (ns : List ℕ) (xs ys : List (Option ℕ))
+    → (after : ℕ) × (list_order (listed position gaps (items_of ns ++ xs)) (listed position gaps (items_of ns ++ ys)) ≡ list_order (listed position after xs) (listed position after ys))
+same_element position gaps [] xs ys = (suc gaps, refl)
+same_element position gaps (n ∷ ns) xs ys =
+    (0, same_number position gaps n (listed position 0 (map Some ns ++ xs)) (listed position 0 (map Some ns ++ ys)) ∙ same_some position ns xs ys)
+
 -- two numbers decide
-pub singles_decide : (n m : ℕ) (ns ms xs ys : List ℕ) (order : Ordering) → ns ≡ n ∷ [] → ms ≡ m ∷ [] → order ≡ nat_cmp n m → is_ne order ≡ true → list_order (ns ++ xs) (ms ++ ys) ≡ order
-singles_decide n m ns ms xs ys order is other_is order_is ne =
-    ap (λ (l : List ℕ). list_order (l ++ xs) (ms ++ ys)) is ∙ ap (λ (l : List ℕ). list_order (n ∷ xs) (l ++ ys)) other_is
-    ∙ ap (λ (o : Ordering). ordering_then o (list_order xs ys)) (sym order_is) ∙ sym (decided order (list_order xs ys) ne)
+pub singles_decide : (n m : ℕ) (ns ms : List ℕ) (order : Ordering) → ns ≡ n ∷ [] → ms ≡ m ∷ [] → order ≡ nat_cmp n m → is_ne order ≡ true → DecidesBoth ns ms order
+singles_decide n m ns ms order is other_is order_is ne = λ position gaps xs ys.
+    decided order (list_order (listed position 0 xs) (listed position 0 ys)) ne
+    ∙ ap (λ (o : Ordering). ordering_then o (list_order (listed position 0 xs) (listed position 0 ys))) order_is
+    ∙ sym (same_front (position_of position gaps) (n ∷ listed position 0 xs) (m ∷ listed position 0 ys))
+    ∙ ap (λ (l : List ℕ). list_order (listed position gaps (items_of l ++ xs)) (listed position gaps (items_of (m ∷ []) ++ ys))) (sym is)
+    ∙ ap (λ (l : List ℕ). list_order (listed position gaps (items_of ns ++ xs)) (listed position gaps (items_of l ++ ys))) (sym other_is)
 
 -- or they don't
-pub singles_pass : (n m : ℕ) (ns ms xs ys : List ℕ) (order : Ordering) → ns ≡ n ∷ [] → ms ≡ m ∷ [] → order ≡ nat_cmp n m → is_ne order ≡ false
-    → list_order (ns ++ xs) (ms ++ ys) ≡ list_order xs ys
-singles_pass n m ns ms xs ys order is other_is order_is eq =
-    ap (λ (l : List ℕ). list_order (l ++ xs) (ms ++ ys)) is ∙ ap (λ (l : List ℕ). list_order (n ∷ xs) (l ++ ys)) other_is
-    ∙ ap (λ (o : Ordering). ordering_then o (list_order xs ys)) (sym order_is) ∙ not_ne order (list_order xs ys) eq
+pub singles_pass : (n m : ℕ) (ns ms : List ℕ) (order : Ordering) → ns ≡ n ∷ [] → ms ≡ m ∷ [] → order ≡ nat_cmp n m → is_ne order ≡ false
+    → (position : Bool) (gaps : ℕ) (xs ys : List (Option ℕ))
+    → list_order (listed position gaps (items_of ns ++ xs)) (listed position gaps (items_of ms ++ ys)) ≡ list_order (listed position 0 xs) (listed position 0 ys)
+singles_pass n m ns ms order is other_is order_is eq position gaps xs ys =
+    ap (λ (l : List ℕ). list_order (listed position gaps (items_of l ++ xs)) (listed position gaps (items_of ms ++ ys))) is
+    ∙ ap (λ (l : List ℕ). list_order (listed position gaps (items_of (n ∷ []) ++ xs)) (listed position gaps (items_of l ++ ys))) other_is
+    ∙ same_front (position_of position gaps) (n ∷ listed position 0 xs) (m ∷ listed position 0 ys)
+    ∙ ap (λ (o : Ordering). ordering_then o (list_order (listed position 0 xs) (listed position 0 ys))) (sym order_is)
+    ∙ not_ne order (list_order (listed position 0 xs) (listed position 0 ys)) eq
 
 -- a byte that is a character by itself
 byte_first : (b : ℕ) (rest : List ℕ) → IsUtf8 (b ∷ rest) → b < 128 → chars (b ∷ rest) ≡ b ∷ chars rest
@@ -148,52 +153,49 @@ byte_first b rest utf8 low = chars_past_char (b ∷ rest) rest b utf8 (sym (ap (
 behind_byte : (b : ℕ) (rest : List ℕ) → IsUtf8 (b ∷ rest) → b < 128 → IsUtf8 rest
 behind_byte b rest utf8 low = IsUtf8-drop (b ∷ rest) 1 utf8 (IsCharBoundary-after_ascii (b ∷ rest) 0 utf8 (omega arith) low)
 
-module _ (table : Collation) (weights : WeightsValue) (levels : 0 < length table.rules) where
-  -- the numbers of a text at the first level, by its first character
-  begin_first : (text : List ℕ) (first : FirstLetter) (numbers : List ℕ) → IsFirstLetter table weights text first → numbers ≡ row_numbers weights 0 first.row
-      → first_numbers table text ≡ numbers ++ first_numbers table (chars first.rest.now)
-  begin_first text first numbers is same =
-      ap (flat_map (λ (ns : List ℕ). ns)) (is.numbers 0 levels) ∙ ap (λ (ns : List ℕ). ns ++ first_numbers table (chars first.rest.now)) (sym same)
+-- one pair of texts after another
+pub alike_on : (table : Collation) (level : ℕ) (text other later others last last_other : List ℕ) → OrdersAlike table level text other later others
+    → OrdersAlike table level later others last last_other → OrdersAlike table level text other last last_other
+alike_on table level text other later others last last_other first second = λ position gaps.
+    let one = first position gaps in
+    let two = second position one.0 in
+    (two.0, one.1 ∙ two.1)
 
-  pub step_both : (text other : List ℕ) (first second : FirstLetter) (ns ms : List ℕ) (step : LetterStep) → IsFirstLetter table weights text first → IsFirstLetter table weights other second
-      → ns ≡ row_numbers weights 0 first.row → ms ≡ row_numbers weights 0 second.row → IsStepOfBoth ns ms first second step → IsStep table text other step
-  step_both text other first second ns ms (Decided order) is other_is n m steps = record {
-    order_is =
-        sym (ap (λ (l : List ℕ). list_order l (first_numbers table other)) (begin_first text first ns is n)
-        ∙ ap (list_order (ns ++ first_numbers table (chars first.rest.now))) (begin_first other second ms other_is m)
-        ∙ steps.order_is (first_numbers table (chars first.rest.now)) (first_numbers table (chars second.rest.now)));
-    decides = steps.decides;
-  }
-  step_both text other first second ns ms (Later later others) is other_is n m steps = record {
-    same =
-        ap (λ (l : List ℕ). list_order l (first_numbers table other)) (begin_first text first ns is n)
-        ∙ ap (list_order (ns ++ first_numbers table (chars first.rest.now))) (begin_first other second ms other_is m)
-        ∙ steps.same (first_numbers table (chars first.rest.now)) (first_numbers table (chars second.rest.now))
-        ∙ ap (λ (l : List ℕ). list_order (first_numbers table (chars l)) (first_numbers table (chars second.rest.now))) (sym steps.rest_is)
-        ∙ ap (λ (l : List ℕ). list_order (first_numbers table (chars later.now)) (first_numbers table (chars l))) (sym steps.other_is);
-    shorter = subst (λ (l : List ℕ). length (chars l) < length text) (sym steps.rest_is) is.shorter;
-  }
-  step_both text other first second ns ms Unknown is other_is n m steps = tt
+-- an order that is told of what is left
+pub orders_before : (table : Collation) (level : ℕ) (text other later others : List ℕ) (order : Ordering) → OrdersAlike table level text other later others
+    → OrdersSo table level later others order → OrdersSo table level text other order
+orders_before table level text other later others order alike orders = λ position gaps.
+    let one = alike position gaps in
+    orders position one.0 ∙ sym one.1
+
+module _ (table : Collation) (level : ℕ) where
+  -- the list of a text by the numbers of its first element
+  begin_behind : (text : List ℕ) (ns : List ℕ) (rest : List (List ℕ)) (position : Bool) (gaps : ℕ) → text_numbers table level text ≡ ns ∷ rest
+      → list_behind table level position gaps text ≡ listed position gaps (items_of ns ++ flat_map items_of rest)
+  begin_behind text ns rest position gaps is = ap (λ (l : List (List ℕ)). listed position gaps (flat_map items_of l)) is
 
   -- the same character leaves it to what comes later
   pub step_same : (text other rest rest_other : List ℕ) (c d : ℕ) → text ≡ c ∷ rest → other ≡ d ∷ rest_other → c ≡ d → StandsAlone table c rest → StandsAlone table c rest_other
-      → GoesOn table text other rest rest_other
+      → GoesOn table level text other rest rest_other
   step_same text other rest rest_other c d is other_is same alone other_alone =
-      let numbers = numbers_at table 0 (Char c) in
-      let first : first_numbers table text ≡ numbers ++ first_numbers table rest = ap (flat_map (λ (ns : List ℕ). ns)) (letter_alone table c text rest is alone 0) in
+      let numbers = numbers_at table level (Char c) in
       let here : other ≡ c ∷ rest_other = other_is ∙ ap (λ (e : ℕ). e ∷ rest_other) (sym same) in
-      let second : first_numbers table other ≡ numbers ++ first_numbers table rest_other = ap (flat_map (λ (ns : List ℕ). ns)) (letter_alone table c other rest_other here other_alone 0) in
       record {
-        same =
-            ap (λ (l : List ℕ). list_order l (first_numbers table other)) first ∙ ap (list_order (numbers ++ first_numbers table rest)) second
-            ∙ same_front numbers (first_numbers table rest) (first_numbers table rest_other);
+        same = λ position gaps.
+            let first = begin_behind text numbers (text_numbers table level rest) position gaps (letter_alone table c text rest is alone level) in
+            let second = begin_behind other numbers (text_numbers table level rest_other) position gaps (letter_alone table c other rest_other here other_alone level) in
+            let one = same_element position gaps numbers (flat_map items_of (text_numbers table level rest)) (flat_map items_of (text_numbers table level rest_other)) in (
+              one.0,
+              ap (λ (l : List ℕ). list_order l (list_behind table level position gaps other)) first
+                  ∙ ap (list_order (listed position gaps (items_of numbers ++ flat_map items_of (text_numbers table level rest)))) second ∙ one.1,
+            );
         shorter = omega (arith, ap length is);
       }
 
   -- what both begin with, byte by byte, leaves it to what comes later
   pub same_behind : (marks : ElementMarks) → AreMarks table marks → (count : ℕ) (text other : List ℕ) → IsUtf8 text → IsUtf8 other → ((k : ℕ) → k < count → IsSameAt marks text other k)
-      → list_order (first_numbers table (chars text)) (first_numbers table (chars other)) ≡ list_order (first_numbers table (chars (drop count text))) (first_numbers table (chars (drop count other)))
-  same_behind marks are zero text other utf8 other_utf8 same = refl
+      → OrdersAlike table level (chars text) (chars other) (chars (drop count text)) (chars (drop count other))
+  same_behind marks are zero text other utf8 other_utf8 same = λ position gaps. (gaps, refl)
   same_behind marks are (suc count) [] other utf8 other_utf8 same = absurd (omega (arith, (same 0 (omega arith)).within))
   same_behind marks are (suc count) (b ∷ text) [] utf8 other_utf8 same = absurd (omega (arith, (same 0 (omega arith)).other_within))
   same_behind marks are (suc count) (b ∷ text) (o ∷ other) utf8 other_utf8 same =
@@ -202,7 +204,8 @@ module _ (table : Collation) (weights : WeightsValue) (levels : 0 < length table
       let none : (rest : List ℕ) → StandsAlone table b rest = λ rest. are b rest (inl first.unmarked) in
       let one = step_same (chars (b ∷ text)) (chars (o ∷ other)) (chars text) (chars other) b o (byte_first b text utf8 first.alone) (byte_first o other other_utf8 low) first.same (none (chars text))
       (none (chars other)) in
-      one.same ∙ same_behind marks are count text other (behind_byte b text utf8 first.alone) (behind_byte o other other_utf8 low) (λ k within.
+      alike_on table level (chars (b ∷ text)) (chars (o ∷ other)) (chars text) (chars other) (chars (drop count text)) (chars (drop count other)) one.same
+      (same_behind marks are count text other (behind_byte b text utf8 first.alone) (behind_byte o other other_utf8 low) (λ k within.
       let next = same (suc k) (omega (arith, within)) in
       record {
         within = omega (arith, next.within);
@@ -210,40 +213,221 @@ module _ (table : Collation) (weights : WeightsValue) (levels : 0 < length table
         same = next.same;
         alone = next.alone;
         unmarked = next.unmarked;
-      })
+      }))
 
   -- the text that goes on where the other one ended is greater
-  greater_at_end : (xs : List ℕ) → 0 < length xs → list_order xs [] ≡ Greater
-  greater_at_end [] some = absurd (omega (arith, some))
-  greater_at_end (x ∷ xs) some = refl
+  greater_at_end : (xs : List ℕ) → order_at_end Greater xs ≡ list_order xs []
+  greater_at_end [] = refl
+  greater_at_end (x ∷ xs) = refl
 
-  less_at_end : (xs : List ℕ) → 0 < length xs → list_order [] xs ≡ Less
-  less_at_end [] some = absurd (omega (arith, some))
-  less_at_end (x ∷ xs) some = refl
+  less_at_end : (xs : List ℕ) → order_at_end Less xs ≡ list_order [] xs
+  less_at_end [] = refl
+  less_at_end (x ∷ xs) = refl
 
-  pub step_greater : (text other : List ℕ) (step : LetterStep) → other ≡ [] → IsStepAtEnd table text Greater step → IsStep table text other step
-  step_greater text other (Decided order) ended ends = record {
-    order_is = ends.order_is ∙ sym (ap (λ (l : List ℕ). list_order (first_numbers table text) (first_numbers table l)) ended ∙ ap (list_order (first_numbers table text)) (none_first table)
-        ∙ greater_at_end (first_numbers table text) ends.some);
-    decides = ap is_ne ends.order_is;
-  }
+  pub step_greater : (text other : List ℕ) (step : LetterStep) → other ≡ [] → IsStepAtEnd table level text Greater step → IsStep table level text other step
+  step_greater text other (Decided order) ended ends = λ position gaps.
+      ends position gaps ∙ greater_at_end (list_behind table level position gaps text)
+      ∙ sym (ap (λ (l : List ℕ). list_order (list_behind table level position gaps text) (list_behind table level position gaps l)) ended
+      ∙ ap (list_order (list_behind table level position gaps text)) (none_behind table level position gaps))
   step_greater text other (Later later others) ended ends = absurd ends
   step_greater text other Unknown ended ends = tt
 
-  pub step_less : (text other : List ℕ) (step : LetterStep) → text ≡ [] → IsStepAtEnd table other Less step → IsStep table text other step
-  step_less text other (Decided order) ended ends = record {
-    order_is = ends.order_is ∙ sym (ap (λ (l : List ℕ). list_order (first_numbers table l) (first_numbers table other)) ended
-        ∙ ap (λ (l : List ℕ). list_order l (first_numbers table other)) (none_first table) ∙ less_at_end (first_numbers table other) ends.some);
-    decides = ap is_ne ends.order_is;
-  }
+  pub step_less : (text other : List ℕ) (step : LetterStep) → text ≡ [] → IsStepAtEnd table level other Less step → IsStep table level text other step
+  step_less text other (Decided order) ended ends = λ position gaps.
+      ends position gaps ∙ less_at_end (list_behind table level position gaps other)
+      ∙ sym (ap (λ (l : List ℕ). list_order (list_behind table level position gaps l) (list_behind table level position gaps other)) ended
+      ∙ ap (λ (l : List ℕ). list_order l (list_behind table level position gaps other)) (none_behind table level position gaps))
   step_less text other (Later later others) ended ends = absurd ends
   step_less text other Unknown ended ends = tt
 
-  -- a text that begins with a number has one
-  pub some_first : (text : List ℕ) (first : FirstLetter) (numbers : List ℕ) (n : ℕ) (ns : List ℕ) → IsFirstLetter table weights text first → numbers ≡ row_numbers weights 0 first.row → numbers ≡ n ∷ ns
-      → 0 < length (first_numbers table text)
-  some_first text first numbers n ns is same some =
-      omega (arith, ap length (begin_first text first numbers is same ∙ ap (λ (l : List ℕ). l ++ first_numbers table (chars first.rest.now)) some))
+  -- no text has no numbers
+  pub none_at_end : (bytes : List ℕ) (wanted : Ordering) → bytes ≡ [] → (position : Bool) (gaps : ℕ) → Equal ≡ order_at_end wanted (list_behind table level position gaps (chars bytes))
+  none_at_end bytes wanted none position gaps =
+      sym (ap (λ (l : List ℕ). order_at_end wanted (list_behind table level position gaps (chars l))) none
+      ∙ ap (λ (l : List ℕ). order_at_end wanted (list_behind table level position gaps l)) chars-nil
+      ∙ ap (order_at_end wanted) (none_behind table level position gaps))
+
+  module _ (weights : WeightsValue) (within : level < length table.rules) where
+    -- the list of a text, by its first character
+    begin_first : (text : List ℕ) (first : FirstLetter) (numbers : List ℕ) → IsFirstLetter table weights text first → numbers ≡ row_numbers weights level first.row → (position : Bool) (gaps : ℕ)
+        → list_behind table level position gaps text ≡ listed position gaps (items_of numbers ++ flat_map items_of (text_numbers table level (chars first.rest.now)))
+    begin_first text first numbers is same position gaps =
+        begin_behind text numbers (text_numbers table level (chars first.rest.now)) position gaps
+        (is.numbers level within ∙ ap (λ (ns : List ℕ). ns ∷ text_numbers table level (chars first.rest.now)) (sym same))
+
+    pub step_both : (text other : List ℕ) (first second : FirstLetter) (ns ms : List ℕ) (step : LetterStep) → IsFirstLetter table weights text first → IsFirstLetter table weights other second
+        → ns ≡ row_numbers weights level first.row → ms ≡ row_numbers weights level second.row → IsStepOfBoth ns ms first second step → IsStep table level text other step
+    step_both text other first second ns ms (Decided order) is other_is n m steps = λ position gaps.
+        steps position gaps (flat_map items_of (text_numbers table level (chars first.rest.now))) (flat_map items_of (text_numbers table level (chars second.rest.now)))
+        ∙ ap (λ (l : List ℕ). list_order l (listed position gaps (items_of ms ++ flat_map items_of (text_numbers table level (chars second.rest.now)))))
+        (sym (begin_first text first ns is n position gaps))
+        ∙ ap (list_order (list_behind table level position gaps text)) (sym (begin_first other second ms other_is m position gaps))
+    step_both text other first second ns ms (Later later others) is other_is n m steps = record {
+      same = λ position gaps. (
+        0,
+        ap (λ (l : List ℕ). list_order l (list_behind table level position gaps other)) (begin_first text first ns is n position gaps)
+            ∙ ap (list_order (listed position gaps (items_of ns ++ flat_map items_of (text_numbers table level (chars first.rest.now))))) (begin_first other second ms other_is m position gaps)
+            ∙ steps.same position gaps (flat_map items_of (text_numbers table level (chars first.rest.now))) (flat_map items_of (text_numbers table level (chars second.rest.now)))
+            ∙ ap (λ (l : List ℕ). order_behind table level position 0 (chars l) (chars second.rest.now)) (sym steps.rest_is)
+            ∙ ap (λ (l : List ℕ). order_behind table level position 0 (chars later.now) (chars l)) (sym steps.other_is),
+      );
+      shorter = subst (λ (l : List ℕ). length (chars l) < length text) (sym steps.rest_is) is.shorter;
+    }
+    step_both text other first second ns ms Unknown is other_is n m steps = tt
+
+    single_at_end : (position : Bool) (gaps n : ℕ) (xs : List (Option ℕ)) (wanted : Ordering) → wanted ≡ order_at_end wanted (listed position gaps (items_of (n ∷ []) ++ xs))
+    single_at_end true gaps n xs wanted = refl
+    single_at_end false gaps n xs wanted = refl
+
+    -- a text that begins with a number has one
+    pub some_at_end : (text : List ℕ) (first : FirstLetter) (numbers : List ℕ) (n : ℕ) (wanted : Ordering) → IsFirstLetter table weights text first
+        → numbers ≡ row_numbers weights level first.row → numbers ≡ n ∷ [] → (position : Bool) (gaps : ℕ) → wanted ≡ order_at_end wanted (list_behind table level position gaps text)
+    some_at_end text first numbers n wanted is same single position gaps =
+        single_at_end position gaps n (flat_map items_of (text_numbers table level (chars first.rest.now))) wanted
+        ∙ ap (λ (l : List ℕ). order_at_end wanted (listed position gaps (items_of l ++ flat_map items_of (text_numbers table level (chars first.rest.now))))) (sym single)
+        ∙ ap (order_at_end wanted) (sym (begin_first text first numbers is same position gaps))
+
+-- Characters of several numbers.
+
+some_items : (ns : List ℕ) → 0 < length ns → items_of ns ≡ map Some ns
+some_items [] some = absurd (omega (arith, some))
+some_items (n ∷ ns) some = refl
+
+pub some_mapped : (f : ℕ → ℕ) (xs : List ℕ) → (length xs == 0) ≡ false → 0 < length (map f xs)
+some_mapped f [] some = absurd cc
+some_mapped f (x ∷ xs) some = omega arith
+
+-- numbers begin with the first of them
+pub begin_with : (n : ℕ) (ms ns : List ℕ) → ns ≡ n ∷ ms → BeginWith n ns
+begin_with n ms ns is = subst (BeginWith n) (sym is) refl
+
+-- two numbers behind as many gaps decide
+numbers_decide : (position : Bool) (gaps n m : ℕ) (xs ys : List ℕ) (order : Ordering) → order ≡ nat_cmp n m → is_ne order ≡ true
+    → order ≡ list_order (position_of position gaps ++ n ∷ xs) (position_of position gaps ++ m ∷ ys)
+numbers_decide position gaps n m xs ys order is ne =
+    decided order (list_order xs ys) ne ∙ ap (λ (o : Ordering). ordering_then o (list_order xs ys)) is ∙ sym (same_front (position_of position gaps) (n ∷ xs) (m ∷ ys))
+
+-- or they leave it to what comes behind them
+numbers_pass : (position : Bool) (gaps n m : ℕ) (xs ys : List ℕ) (order : Ordering) → order ≡ nat_cmp n m → is_ne order ≡ false
+    → list_order (position_of position gaps ++ n ∷ xs) (position_of position gaps ++ m ∷ ys) ≡ list_order xs ys
+numbers_pass position gaps n m xs ys order is eq =
+    same_front (position_of position gaps) (n ∷ xs) (m ∷ ys) ∙ ap (λ (o : Ordering). ordering_then o (list_order xs ys)) (sym is) ∙ not_ne order (list_order xs ys) eq
+
+greater_than_none : (position : Bool) (gaps n : ℕ) (xs : List ℕ) → Greater ≡ list_order (position_of position gaps ++ n ∷ xs) []
+greater_than_none true gaps n xs = refl
+greater_than_none false gaps n xs = refl
+
+module _ (table : Collation) (level : ℕ) where
+  -- where the text has ended
+  pub number_at_end : (number : ℕ) (bytes : List ℕ) → bytes ≡ [] → IsOrderToText table level number (chars bytes) Greater
+  number_at_end number bytes none = λ position gaps later.
+      greater_than_none position gaps number (listed position 0 later)
+      ∙ sym (ap (λ (l : List ℕ). list_order (listed position gaps (Some number ∷ later)) (list_behind table level position gaps (chars l))) none
+      ∙ ap (λ (l : List ℕ). list_order (listed position gaps (Some number ∷ later)) (list_behind table level position gaps l)) chars-nil
+      ∙ ap (list_order (listed position gaps (Some number ∷ later))) (none_behind table level position gaps))
+
+  -- where it begins with another number
+  pub number_decides : (weights : WeightsValue) → level < length table.rules → (number next : ℕ) (text : List ℕ) (first : FirstLetter) (numbers : List ℕ) (order : Ordering)
+      → IsFirstLetter table weights text first → numbers ≡ row_numbers weights level first.row → BeginWith next numbers → order ≡ nat_cmp number next → is_ne order ≡ true
+      → IsOrderToText table level number text order
+  number_decides weights within number next text first [] order is same begin order_is ne = absurd begin
+  number_decides weights within number next text first (m ∷ ms) order is same begin order_is ne = λ position gaps later.
+      numbers_decide position gaps number m (listed position 0 later) (listed position 0 (map Some ms ++ text_items table level (chars first.rest.now))) order
+      (order_is ∙ ap (nat_cmp number) begin) ne
+      ∙ ap (list_order (listed position gaps (Some number ∷ later))) (sym (begin_first table level weights within text first (m ∷ ms) is same position gaps))
+
+  module _ (text other : List ℕ) where
+    pub parts_begin : (ns ms : List ℕ) → 0 < length ns → 0 < length ms → PartsAlike table level (items_of ns) (items_of ms) (map Some ns) (map Some ms) text other
+    parts_begin ns ms some others = λ position gaps. (
+      gaps,
+      ap (λ (xs : List (Option ℕ)). order_of_parts table level position gaps xs (items_of ms) text other) (some_items ns some)
+          ∙ ap (λ (ys : List (Option ℕ)). order_of_parts table level position gaps (map Some ns) ys text other) (some_items ms others),
+    )
+
+    -- one number of each less
+    pub parts_go_on : (part other_part : List (Option ℕ)) (left right later others : List ℕ) (n m : ℕ) (order : Ordering) → left ≡ n ∷ later → right ≡ m ∷ others → order ≡ nat_cmp n m
+        → is_ne order ≡ false → PartsAlike table level part other_part (map Some left) (map Some right) text other
+        → PartsAlike table level part other_part (map Some later) (map Some others) text other
+    parts_go_on part other_part left right later others n m order is other_is order_is eq so_far = λ position gaps.
+        let one = so_far position gaps in (
+          0,
+          one.1
+              ∙ ap (λ (l : List ℕ). order_of_parts table level position one.0 (map Some l) (map Some right) text other) is
+              ∙ ap (λ (l : List ℕ). order_of_parts table level position one.0 (map Some (n ∷ later)) (map Some l) text other) other_is
+              ∙ numbers_pass position one.0 n m (listed position 0 (map Some later ++ text_items table level text)) (listed position 0 (map Some others ++ text_items table level other)) order order_is eq,
+        )
+
+    pub parts_decide : (part other_part : List (Option ℕ)) (left right later others : List ℕ) (n m : ℕ) (order : Ordering) → left ≡ n ∷ later → right ≡ m ∷ others → order ≡ nat_cmp n m
+        → is_ne order ≡ true → PartsAlike table level part other_part (map Some left) (map Some right) text other → (position : Bool) (gaps : ℕ)
+        → order ≡ order_of_parts table level position gaps part other_part text other
+    parts_decide part other_part left right later others n m order is other_is order_is ne so_far position gaps =
+        let one = so_far position gaps in
+        numbers_decide position one.0 n m (listed position 0 (map Some later ++ text_items table level text)) (listed position 0 (map Some others ++ text_items table level other)) order order_is ne
+        ∙ sym (one.1
+        ∙ ap (λ (l : List ℕ). order_of_parts table level position one.0 (map Some l) (map Some right) text other) is
+        ∙ ap (λ (l : List ℕ). order_of_parts table level position one.0 (map Some (n ∷ later)) (map Some l) text other) other_is)
+
+    -- the first part has a number more
+    pub parts_longer : (part other_part : List (Option ℕ)) (left right later : List ℕ) (n : ℕ) (order : Ordering) → left ≡ n ∷ later → right ≡ [] → IsOrderToText table level n other order
+        → PartsAlike table level part other_part (map Some left) (map Some right) text other → (position : Bool) (gaps : ℕ)
+        → order ≡ order_of_parts table level position gaps part other_part text other
+    parts_longer part other_part left right later n order is none to_text so_far position gaps =
+        let one = so_far position gaps in
+        to_text position one.0 (map Some later ++ text_items table level text)
+        ∙ sym (one.1
+        ∙ ap (λ (l : List ℕ). order_of_parts table level position one.0 (map Some l) (map Some right) text other) is
+        ∙ ap (λ (l : List ℕ). order_of_parts table level position one.0 (map Some (n ∷ later)) (map Some l) text other) none)
+
+    -- or the second one has
+    pub parts_shorter : (part other_part : List (Option ℕ)) (left right later : List ℕ) (m : ℕ) (order : Ordering) → left ≡ [] → right ≡ m ∷ later → IsOrderToText table level m text order
+        → PartsAlike table level part other_part (map Some left) (map Some right) text other → (position : Bool) (gaps : ℕ)
+        → ordering_reverse order ≡ order_of_parts table level position gaps part other_part text other
+    parts_shorter part other_part left right later m order none is to_text so_far position gaps =
+        let one = so_far position gaps in
+        let list = list_behind table level position one.0 text in
+        let behind = listed position one.0 (Some m ∷ map Some later ++ text_items table level other) in
+        ap ordering_reverse (to_text position one.0 (map Some later ++ text_items table level other))
+        ∙ sym (nat_list_cmp_total.antisymm list behind)
+        ∙ sym (one.1
+        ∙ ap (λ (l : List ℕ). order_of_parts table level position one.0 (map Some l) (map Some right) text other) none
+        ∙ ap (λ (l : List ℕ). order_of_parts table level position one.0 [] (map Some l) text other) is)
+
+    -- neither has
+    pub parts_end : (ns ms left right : List ℕ) → left ≡ [] → right ≡ [] → PartsAlike table level (items_of ns) (items_of ms) (map Some left) (map Some right) text other
+        → LeavesParts table level ns ms text other text other
+    parts_end ns ms left right none others so_far = record {
+      same = λ position gaps.
+          let one = so_far position gaps in (
+            one.0,
+            one.1
+                ∙ ap (λ (l : List ℕ). order_of_parts table level position one.0 (map Some l) (map Some right) text other) none
+                ∙ ap (λ (l : List ℕ). order_of_parts table level position one.0 [] (map Some l) text other) others,
+          );
+      rest_is = refl;
+      other_is = refl;
+    }
+
+  pub step_parts : (weights : WeightsValue) → level < length table.rules → (text other : List ℕ) (first second : FirstLetter) (ns ms : List ℕ) (step : LetterStep)
+      → IsFirstLetter table weights text first → IsFirstLetter table weights other second → ns ≡ row_numbers weights level first.row → ms ≡ row_numbers weights level second.row
+      → IsStepOfParts table level ns ms (chars first.rest.now) (chars second.rest.now) step → IsStep table level text other step
+  step_parts weights within text other first second ns ms (Decided order) is other_is n m steps = λ position gaps.
+      steps position gaps
+      ∙ ap (λ (l : List ℕ). list_order l (listed position gaps (items_of ms ++ text_items table level (chars second.rest.now))))
+      (sym (begin_first table level weights within text first ns is n position gaps))
+      ∙ ap (list_order (list_behind table level position gaps text)) (sym (begin_first table level weights within other second ms other_is m position gaps))
+  step_parts weights within text other first second ns ms (Later later others) is other_is n m steps = record {
+    same = λ position gaps.
+        let one = steps.same position gaps in (
+          one.0,
+          ap (λ (l : List ℕ). list_order l (list_behind table level position gaps other)) (begin_first table level weights within text first ns is n position gaps)
+              ∙ ap (list_order (listed position gaps (items_of ns ++ text_items table level (chars first.rest.now)))) (begin_first table level weights within other second ms other_is m position gaps)
+              ∙ one.1
+              ∙ ap (λ (l : List ℕ). order_behind table level position one.0 l (chars second.rest.now)) (sym steps.rest_is)
+              ∙ ap (λ (l : List ℕ). order_behind table level position one.0 (chars later.now) l) (sym steps.other_is),
+        );
+    shorter = subst (λ (l : List ℕ). length l < length text) (sym steps.rest_is) is.shorter;
+  }
+  step_parts weights within text other first second ns ms Unknown is other_is n m steps = tt
 
 -- Elements that are declared.
 

@@ -124,13 +124,6 @@ take_front zero (listed ∷ list) rest same = absurd (omega (arith, same))
 take_front (suc len) [] rest same = absurd (omega (arith, same))
 take_front (suc len) (listed ∷ list) rest same = ap (λ (l : List ListedWord). listed ∷ l) (take_front len list rest (omega (arith, same)))
 
-keyed_led : (table : Collation) (leader : ℕ) (list : List ListedWord) → AreListedByKeys table list → AreListedByKeys table (led_by leader list)
-keyed_led table leader [] keyed = keyed
-keyed_led table leader (listed ∷ list) keyed =
-    All-cons (λ (l : ListedWord). IsKeyed table l.word) (record listed { leader = leader }) (led_by listed.line list)
-    (All-first (λ (l : ListedWord). IsKeyed table l.word) listed list keyed)
-    (keyed_led table listed.line list (All-others (λ (l : ListedWord). IsKeyed table l.word) listed list keyed))
-
 -- fewer than two words are in order
 pub few_in_order : (table : Collation) (list : List ListedWord) → length list < 2 → IsSorted (line_order table) (all_numbered list)
 few_in_order table list few = λ k d low high. absurd (omega (arith, few, high, length-map list numbered_of))
@@ -143,17 +136,6 @@ module _ (table : Collation) (old new : List ListedWord) where
     same = refl;
     moved = subst (IsPermutation (led_by zero old)) (sym led) (IsPermutation-refl (led_by zero old));
     ordered = subst (IsSorted (line_order table)) (sym (ap all_numbered led ∙ numbered_still zero old)) ordered;
-  }
-
-  -- a list that was keyed, led and sorted
-  pub anew_sorted : (keyed led : List ListedWord) → IsWellFormed table → all_numbered keyed ≡ all_numbered old → AreListedByKeys table keyed → led ≡ led_by zero keyed
-      → IsPermutation led new
-      → ((table : Collation) → IsWellFormed table → AreListedByKeys table led → IsSorted (line_order table) (all_numbered new)) → IsSortedAnew table old new
-  anew_sorted keyed led well same by_keys is moved sorts = record {
-    from = keyed;
-    same = same;
-    moved = subst (λ (l : List ListedWord). IsPermutation l new) is moved;
-    ordered = sorts table well (subst (AreListedByKeys table) (sym is) (keyed_led table zero keyed by_keys));
   }
 
 -- all were led

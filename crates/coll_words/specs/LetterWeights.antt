@@ -1,16 +1,16 @@
 -- What characters weigh in a table, kept for the characters of words alone.
-use Rattle.std.specs.Prelude.{◌≡◌, ◌<◌, ℕ, List, [], ◌∷◌, ◌++◌, All, length, map, chars, true, false}
+use Rattle.std.specs.Prelude.{◌≡◌, ◌<◌, ℕ, Bool, List, [], ◌∷◌, ◌++◌, Option, Some, All, length, map, chars}
 use Rattle.std.specs.List.{flat_map}
-use Rattle.std.specs.Ordering.{is_ne}
 use Rattle.std.specs.declared.cmp.Ordering.{Ordering}
+use Rattle.std.specs.declared.cmp.Ordering.TheVariants.{Equal}
 use Rattle.coll_syntax.specs.declared.identifiers.Id.TheVariants.{Char}
-use Rattle.coll_syntax.specs.declared.rules.Rule.{Rule}
 use Rattle.coll_nodes.specs.Table.{Collation}
 use Rattle.coll_elements.specs.Elements.{elements_of}
 use Rattle.coll_ranks.specs.LevelWeights.{row_numbers}
 use Rattle.coll_ranks.specs.RankLists.{WeightsValue}
 use Rattle.coll_ranks.specs.WeightNumbers.{numbers_at}
 use Rattle.coll_ranks.specs.declared.text_elements.ElementRow.{ElementRow}
+use Rattle.coll_key.specs.LevelList.{items_of, listed}
 use Rattle.coll_key.specs.TextOrder.{list_order}
 use Rattle.coll_words.specs.ElementMarks.{AreMarks}
 use Rattle.coll_words.specs.declared.letter_weights.FirstLetter.{FirstLetter}
@@ -42,44 +42,48 @@ pub record IsFirstLetter (table : Collation) (weights : WeightsValue) (text : Li
       → text_numbers table level text ≡ row_numbers weights level first.row ∷ text_numbers table level (chars first.rest.now)
   pub shorter : length (chars first.rest.now) < length text
 
--- the numbers of a text at the first level, one behind another
-abbrev pub first_numbers : Collation → List ℕ → List ℕ
-first_numbers table text = flat_map (λ numbers. numbers) (text_numbers table 0 text)
+-- the numbers and gaps of a text at a level, in order
+abbrev pub text_items : Collation → (level : ℕ) → List ℕ → List (Option ℕ)
+text_items table level text = flat_map items_of (text_numbers table level text)
 
--- the first level orders two texts as it orders two others
-abbrev pub OrdersAlike : Collation → (text other later others : List ℕ) → Type 0
-OrdersAlike table text other later others =
-    list_order (first_numbers table text) (first_numbers table other) ≡ list_order (first_numbers table later) (first_numbers table others)
+-- the list of a text at a level that is looked at from the front, where so many gaps came before the text
+abbrev pub list_behind : Collation → (level : ℕ) → (position : Bool) → (gaps : ℕ) → (text : List ℕ) → List ℕ
+list_behind table level position gaps text = listed position gaps (text_items table level text)
 
--- the first level is looked at from the front, and without positions
-abbrev pub BeginsPlain : List Rule → Type 0
-BeginsPlain [] = ⊥
-BeginsPlain (rule ∷ rules) = (rule.backward ≡ false) × (rule.position ≡ false)
+-- the order of two texts at such a level
+abbrev pub order_behind : Collation → (level : ℕ) → (position : Bool) → (gaps : ℕ) → (text other : List ℕ) → Ordering
+order_behind table level position gaps text other = list_order (list_behind table level position gaps text) (list_behind table level position gaps other)
 
--- the first level decides the order of two texts
-pub record DecidesFirst (table : Collation) (text other : List ℕ) (order : Ordering) : Type 0 where
-  pub order_is : order ≡ list_order (first_numbers table text) (first_numbers table other)
-  pub decides : is_ne order ≡ true
+-- a level orders two texts as it orders two others, whatever gaps came before: behind the others' own beginning there are perhaps more
+abbrev pub OrdersAlike : Collation → (level : ℕ) → (text other later others : List ℕ) → Type 0
+OrdersAlike table level text other later others =
+    (position : Bool) (gaps : ℕ) → (after : ℕ) × (order_behind table level position gaps text other ≡ order_behind table level position after later others)
 
--- a step along two texts at the first level: their first characters decide, or what comes later does
-pub record GoesOn (table : Collation) (text other later others : List ℕ) : Type 0 where
-  pub same : list_order (first_numbers table text) (first_numbers table other)
-      ≡ list_order (first_numbers table later) (first_numbers table others)
+-- a level orders two texts so, whatever gaps came before
+abbrev pub OrdersSo : Collation → (level : ℕ) → (text other : List ℕ) → Ordering → Type 0
+OrdersSo table level text other order = (position : Bool) (gaps : ℕ) → order ≡ order_behind table level position gaps text other
+
+-- a step along two texts at a level: their first characters decide, or what comes later does
+pub record GoesOn (table : Collation) (level : ℕ) (text other later others : List ℕ) : Type 0 where
+  pub same : OrdersAlike table level text other later others
   pub shorter : length later < length text
 
-abbrev pub IsStep : Collation → (text other : List ℕ) → LetterStep → Type 0
-IsStep table text other (Decided order) = DecidesFirst table text other order
-IsStep table text other (Later later others) = GoesOn table text other (chars later.now) (chars others.now)
-IsStep table text other Unknown = Unit {0}
+abbrev pub IsStep : Collation → (level : ℕ) → (text other : List ℕ) → LetterStep → Type 0
+IsStep table level text other (Decided order) = OrdersSo table level text other order
+IsStep table level text other (Later later others) = GoesOn table level text other (chars later.now) (chars others.now)
+IsStep table level text other Unknown = Unit {0}
 
 -- the numbers of two elements decide the order of what begins with them
-pub record DecidesBoth (numbers others : List ℕ) (order : Ordering) : Type 0 where
-  pub order_is : (later later_others : List ℕ) → list_order (numbers ++ later) (others ++ later_others) ≡ order
-  pub decides : is_ne order ≡ true
+abbrev pub DecidesBoth : (numbers others : List ℕ) → Ordering → Type 0
+DecidesBoth numbers others order =
+    (position : Bool) (gaps : ℕ) (later later_others : List (Option ℕ))
+    → order ≡ list_order (listed position gaps (items_of numbers ++ later)) (listed position gaps (items_of others ++ later_others))
 
 -- or they leave it to what comes later
 pub record LeavesBoth (numbers others : List ℕ) (first second : FirstLetter) (rest other_rest : List ℕ) : Type 0 where
-  pub same : (later later_others : List ℕ) → list_order (numbers ++ later) (others ++ later_others) ≡ list_order later later_others
+  pub same : (position : Bool) (gaps : ℕ) (later later_others : List (Option ℕ))
+      → list_order (listed position gaps (items_of numbers ++ later)) (listed position gaps (items_of others ++ later_others))
+      ≡ list_order (listed position 0 later) (listed position 0 later_others)
   pub rest_is : rest ≡ first.rest.now
   pub other_is : other_rest ≡ second.rest.now
 
@@ -88,12 +92,49 @@ IsStepOfBoth numbers others first second (Decided order) = DecidesBoth numbers o
 IsStepOfBoth numbers others first second (Later later rest) = LeavesBoth numbers others first second later.now rest.now
 IsStepOfBoth numbers others first second Unknown = Unit {0}
 
--- a text has numbers at the first level where another one has ended, so the order is this
-pub record DecidesAtEnd (table : Collation) (text : List ℕ) (wanted order : Ordering) : Type 0 where
-  pub order_is : order ≡ wanted
-  pub some : 0 < length (first_numbers table text)
+-- the order of a list and an empty one, where this is that of a longer list and an empty one
+abbrev pub order_at_end : (wanted : Ordering) → List ℕ → Ordering
+order_at_end wanted [] = Equal
+order_at_end wanted (number ∷ numbers) = wanted
 
-abbrev pub IsStepAtEnd : Collation → (text : List ℕ) → Ordering → LetterStep → Type 0
-IsStepAtEnd table text wanted (Decided order) = DecidesAtEnd table text wanted order
-IsStepAtEnd table text wanted (Later later rest) = ⊥
-IsStepAtEnd table text wanted Unknown = Unit {0}
+-- where another text has ended, the order is this if this one has numbers at a level
+abbrev pub IsStepAtEnd : Collation → (level : ℕ) → (text : List ℕ) → Ordering → LetterStep → Type 0
+IsStepAtEnd table level text wanted (Decided order) =
+    (position : Bool) (gaps : ℕ) → order ≡ order_at_end wanted (list_behind table level position gaps text)
+IsStepAtEnd table level text wanted (Later later rest) = ⊥
+IsStepAtEnd table level text wanted Unknown = Unit {0}
+
+-- numbers begin with this one
+abbrev pub BeginWith : ℕ → List ℕ → Type 0
+BeginWith n [] = ⊥
+BeginWith n (m ∷ ms) = n ≡ m
+
+-- a number, whatever comes behind it, and a text have this order at a level
+abbrev pub IsOrderToText : Collation → (level : ℕ) → (number : ℕ) → (text : List ℕ) → Ordering → Type 0
+IsOrderToText table level number text order =
+    (position : Bool) (gaps : ℕ) (later : List (Option ℕ)) → order ≡ list_order (listed position gaps (Some number ∷ later)) (list_behind table level position gaps text)
+
+-- the order of one text behind some numbers and gaps, and of another one behind others, where so many gaps came before both
+abbrev pub order_of_parts : Collation → (level : ℕ) → (position : Bool) → (gaps : ℕ) → (part other_part : List (Option ℕ)) → (text other : List ℕ) → Ordering
+order_of_parts table level position gaps part other_part text other =
+    list_order (listed position gaps (part ++ text_items table level text)) (listed position gaps (other_part ++ text_items table level other))
+
+-- two parts before texts leave the order to two others, whatever gaps came before
+abbrev pub PartsAlike : Collation → (level : ℕ) → (part other_part later others : List (Option ℕ)) → (text other : List ℕ) → Type 0
+PartsAlike table level part other_part later others text other =
+    (position : Bool) (gaps : ℕ) → (after : ℕ)
+    × (order_of_parts table level position gaps part other_part text other ≡ order_of_parts table level position after later others text other)
+
+-- the numbers of two elements leave the order to the texts behind them
+pub record LeavesParts (table : Collation) (level : ℕ) (numbers others : List ℕ) (text other rest other_rest : List ℕ) : Type 0 where
+  pub same : PartsAlike table level (items_of numbers) (items_of others) [] [] text other
+  pub rest_is : rest ≡ text
+  pub other_is : other_rest ≡ other
+
+-- a step past the numbers of two elements: they decide, perhaps with what comes next, or what comes next does
+abbrev pub IsStepOfParts : Collation → (level : ℕ) → (numbers others : List ℕ) → (text other : List ℕ) → LetterStep → Type 0
+IsStepOfParts table level numbers others text other (Decided order) =
+    (position : Bool) (gaps : ℕ) → order ≡ order_of_parts table level position gaps (items_of numbers) (items_of others) text other
+IsStepOfParts table level numbers others text other (Later later rest) =
+    LeavesParts table level numbers others text other (chars later.now) (chars rest.now)
+IsStepOfParts table level numbers others text other Unknown = Unit {0}

@@ -36,6 +36,13 @@ newly_beside (listed ∷ next ∷ list) =
     then newly_beside (next ∷ list)
     else (numbered_of listed, numbered_of next) ∷ newly_beside (next ∷ list)
 
+-- a list was sorted by a table, and some of its words perhaps have other keys
+pub record IsSortedAgain (table : Collation) (old new : List ListedWord) : Type 0 where
+  pub keyed : List ListedWord
+  pub same : map unkeyed keyed ≡ map unkeyed old
+  pub moved : IsPermutation keyed new
+  pub ordered : IsSorted (line_order table) (all_numbered new)
+
 -- a list was sorted anew by a table: beside each word stands which one stood before it in the old list
 pub record IsSortedAnew (table : Collation) (old new : List ListedWord) : Type 0 where
   pub from : List ListedWord

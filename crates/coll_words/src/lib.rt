@@ -12,11 +12,11 @@
 //! - `sorting`: the words of an input are sorted, and written (`SortRuns`);
 //! - `reviewing`: statements are put to a table one by one, and of each it is told what it did to the words of an input
 //!   (`ReviewRuns`), over `listed_words` with the list that is sorted anew (`Neighbours`, `NumberedWords`, `ListedWords`), by
-//!   `staying_words` and `moved_words` as far as its words move (`MovedWords`); the words are compared by `word_orders`
-//!   (`WordOrders`), where it serves by what their `letters` weigh (`letter_weights`, `LetterWeights`), as far as no element stands
-//!   among these (`element_marks`, `ElementMarks`); `review_lines` with what is told of a statement (`ReviewLines`), and `reviews`
-//!   with where a review stands (`Reviews`, `ReviewSteps`), and which statements move no word (`Declaring`); what is told is kept by
-//!   `kept_bytes`, and how far a review got is told by `progress`.
+//!   `staying_words` and `moved_words` as far as its words move (`MovedWords`), and behind a guess of `word_fronts` where many do; the
+//!   words are compared by `word_orders` (`WordOrders`), where it serves by what their `letters` weigh (`letter_weights`,
+//!   `LetterWeights`), as far as no element stands among these (`element_marks`, `ElementMarks`); `review_lines` with what is told of
+//!   a statement (`ReviewLines`), and `reviews` with where a review stands (`Reviews`, `ReviewSteps`), and which statements move no
+//!   word (`Declaring`); what is told is kept by `kept_bytes`, and how far a review got is told by `progress`.
 #![tactic(auto)]
 
 mod element_marks;
@@ -38,6 +38,7 @@ mod staying_words;
 mod stored_words;
 mod taking_words;
 mod tied_words;
+mod word_fronts;
 mod word_orders;
 mod word_texts;
 mod words;

@@ -4,6 +4,7 @@
 //! they aren't, the ranks of the whole table are made.
 
 ghost use Rattle.std.specs.Prelude.{◌≡◌, chars, true, IfOk, IfSome};
+ghost use Rattle.std.specs.List.Sorted.{IsPermutation};
 ghost use Rattle.coll_nodes.specs.TableLayout.{collation};
 ghost use Rattle.coll_key.specs.SortKey.{key_of};
 ghost use Rattle.coll_key.specs.TextOrder.{order_of};
@@ -15,6 +16,7 @@ use crate::element_marks::ElementMarks;
 use crate::letter_weights::LetterWeights;
 use crate::letters::Letters;
 use crate::listed_words::ListedWord;
+use crate::word_fronts::WordFronts;
 use coll_elements::CodePoints;
 use coll_key::{
     EntryNumbers, KeyFault, Ranks, compare, compare_texts, is_too_long, key, key_of_text,
@@ -226,6 +228,34 @@ fn order_by_letters(
     {
         Some(order) => Ok(order),
         None => compare_texts(alloc, table, letters.numbers, text, other),
+    }
+}
+
+/// Whether the order of words may be guessed: their characters have rows, and the first level is looked at from the front.
+pub(crate) fn can_guess(table: &Table, order: &WordOrder<'_>) -> bool {
+    match order {
+        WordOrder::ByRanks(_) => false,
+        WordOrder::ByLetters(_) => match table.rules().first() {
+            Some(rule) => !rule.backward && !rule.position,
+            None => false,
+        },
+    }
+}
+
+/// Puts words into an order that is mostly right, where that may be guessed.
+pub(crate) fn guess_order(
+    alloc: Global,
+    order: &WordOrder<'_>,
+    list: &mut Vec<ListedWord>,
+) -> Result<(), AllocError>
+    ensures { IsPermutation list.old.items list.new.items }
+{
+    match order {
+        WordOrder::ByRanks(_) => Ok(()),
+        WordOrder::ByLetters(letters) => {
+            let fronts = WordFronts::new(alloc, &letters.weights, letters.places)?;
+            fronts.sort(list)
+        }
     }
 }
 
