@@ -1,10 +1,10 @@
 -- Spellings in parts, and as bytes.
 use Rattle.std.proofs.Common.{◌≡◌, ℕ, zero, suc, ◌+◌, ◌/◌, ◌%◌, ◌<◌, ◌≤◌, Bool, true, false, if◌then◌else◌, ltb, cond, List, [], ◌∷◌, ◌++◌, All}
-use Rattle.std.proofs.Common.{length, take, drop, get_or, set, refl, sym, ap, ◌∙◌, subst, ⊎_elim, append_assoc, take-append-drop, arith}
+use Rattle.std.proofs.Common.{length, take, drop, get_or, refl, sym, ap, ◌∙◌, subst, ⊎_elim, append_assoc, take-append-drop, arith}
 use Rattle.std.proofs.Math.Utf8.{encode, encodes}
 use Rattle.std.proofs.lemmas.Str.{encode_ascii, encodes-IsAscii}
 use Rattle.std.proofs.lemmas.Bool.{cases_lt, ne_eqb, le-ltb, lt-ltb}
-use Rattle.std.proofs.lemmas.List.{drop_more, drop-set}
+use Rattle.std.proofs.lemmas.List.{drop_more}
 use Rattle.std.proofs.lemmas.List.Elements.{All-head, All-tail, All-nil, All-cons, All-append, All-push, All-weaker}
 use Rattle.std.proofs.lemmas.Str.Ascii.{IsAscii-from_all}
 use Rattle.coll_lex.specs.Spelling.{is_escaped, spelled_char, spelled_name, spelled_symbol, spelled_code, hex_digit, hex_digits, digit_count}
@@ -138,15 +138,6 @@ pub hex_digits-suc : (count n : ℕ) → hex_digits (suc count) n ≡ hex_digits
 unfolding hex_digits
 hex_digits-suc count n = refl
 
--- one more digit in front of those that stand
-pub hex_digits-more : (at n d : ℕ) (digits : List ℕ) → at < length digits → d ≡ hex_digit (n % 16) → hex_digits (suc at) n ++ drop (suc at) digits ≡ hex_digits at (n / 16) ++ drop at (set digits at d)
-hex_digits-more at n d digits within is =
-    let after : drop at (set digits at d) ≡ d ∷ drop (at + 1) digits = drop-set digits at d within in
-    let next : at + 1 ≡ suc at = omega arith in
-    ap (λ l. l ++ drop (suc at) digits) (hex_digits-suc at n)
-    ∙ append_assoc (hex_digits at (n / 16)) (hex_digit (n % 16) ∷ []) (drop (suc at) digits)
-    ∙ ap (λ l. hex_digits at (n / 16) ++ l) (rw (after, is, next) refl)
-
 -- no digits
 pub hex_digits-zero : (n : ℕ) → hex_digits 0 n ≡ []
 unfolding hex_digits
@@ -174,28 +165,32 @@ encodes-spelled_code c =
     let whole : All P (60 ∷ 85 ∷ (digits ++ 62 ∷ [])) = All-cons P 60 (85 ∷ (digits ++ 62 ∷ [])) (omega arith) (All-cons P 85 (digits ++ 62 ∷ []) (omega arith) inner) in
     encodes-IsAscii (60 ∷ 85 ∷ (digits ++ 62 ∷ [])) (IsAscii-from_all (60 ∷ 85 ∷ (digits ++ 62 ∷ [])) whole)
 
--- the last four of eight digits, one by one
-digits_four : (n : ℕ) (d : List ℕ) → d ≡ hex_digits 8 n → hex_digits 4 n ≡ get_or d 4 0 ∷ get_or d 5 0 ∷ get_or d 6 0 ∷ get_or d 7 0 ∷ []
+-- four digits, one by one
+digits_four : (n : ℕ) (d : List ℕ) → d ≡ hex_digits 4 n → hex_digits 4 n ≡ get_or d 0 0 ∷ get_or d 1 0 ∷ get_or d 2 0 ∷ get_or d 3 0 ∷ []
 unfolding hex_digits
 digits_four n d is = rw is refl
 
--- all of eight digits, one by one
-digits_eight : (n : ℕ) (d : List ℕ) → d ≡ hex_digits 8 n → hex_digits 8 n ≡ get_or d 0 0 ∷ get_or d 1 0 ∷ get_or d 2 0 ∷ get_or d 3 0 ∷ get_or d 4 0 ∷ get_or d 5 0 ∷ get_or d 6 0 ∷ get_or d 7 0 ∷ []
+-- eight digits are the four before the last four, and these
+digits_eight : (n : ℕ) → hex_digits 8 n ≡ hex_digits 4 (n / 65536) ++ hex_digits 4 n
 unfolding hex_digits
-digits_eight n d is = rw is refl
+digits_eight n =
+    let further : n / 16 / 16 / 16 / 16 ≡ n / 65536 = omega arith in
+    rw further refl
 
 -- the bytes of a character up to FFFF
-pub code_of_four : (c : ℕ) (d : List ℕ) → d ≡ hex_digits 8 c → c < 65536 → encodes (spelled_code c []) ≡ 60 ∷ 85 ∷ get_or d 4 0 ∷ get_or d 5 0 ∷ get_or d 6 0 ∷ get_or d 7 0 ∷ 62 ∷ []
+pub code_of_four : (c : ℕ) (d : List ℕ) → d ≡ hex_digits 4 c → c < 65536 → encodes (spelled_code c []) ≡ 60 ∷ 85 ∷ get_or d 0 0 ∷ get_or d 1 0 ∷ get_or d 2 0 ∷ get_or d 3 0 ∷ 62 ∷ []
 code_of_four c d is low =
     let count : digit_count c ≡ 4 = rw (lt-ltb c 65536 low) refl in
     encodes-spelled_code c ∙ ap (λ n. 60 ∷ 85 ∷ (hex_digits n c ++ 62 ∷ [])) count ∙ ap (λ l. 60 ∷ 85 ∷ (l ++ 62 ∷ [])) (digits_four c d is)
 
 -- the bytes of a character above
-pub code_of_eight : (c : ℕ) (d : List ℕ) → d ≡ hex_digits 8 c → 65536 ≤ c
-    → encodes (spelled_code c []) ≡ 60 ∷ 85 ∷ get_or d 0 0 ∷ get_or d 1 0 ∷ get_or d 2 0 ∷ get_or d 3 0 ∷ get_or d 4 0 ∷ get_or d 5 0 ∷ get_or d 6 0 ∷ get_or d 7 0 ∷ 62 ∷ []
-code_of_eight c d is high =
+pub code_of_eight : (c : ℕ) (h d : List ℕ) → h ≡ hex_digits 4 (c / 65536) → d ≡ hex_digits 4 c → 65536 ≤ c
+    → encodes (spelled_code c []) ≡ 60 ∷ 85 ∷ get_or h 0 0 ∷ get_or h 1 0 ∷ get_or h 2 0 ∷ get_or h 3 0 ∷ get_or d 0 0 ∷ get_or d 1 0 ∷ get_or d 2 0 ∷ get_or d 3 0 ∷ 62 ∷ []
+code_of_eight c h d first is high =
     let count : digit_count c ≡ 8 = rw (le-ltb c 65536 high) refl in
-    encodes-spelled_code c ∙ ap (λ n. 60 ∷ 85 ∷ (hex_digits n c ++ 62 ∷ [])) count ∙ ap (λ l. 60 ∷ 85 ∷ (l ++ 62 ∷ [])) (digits_eight c d is)
+    let both : hex_digits 8 c ≡ (get_or h 0 0 ∷ get_or h 1 0 ∷ get_or h 2 0 ∷ get_or h 3 0 ∷ []) ++ (get_or d 0 0 ∷ get_or d 1 0 ∷ get_or d 2 0 ∷ get_or d 3 0 ∷ []) =
+    digits_eight c ∙ ap (λ l. l ++ hex_digits 4 c) (digits_four (c / 65536) h first) ∙ ap (λ l. (get_or h 0 0 ∷ get_or h 1 0 ∷ get_or h 2 0 ∷ get_or h 3 0 ∷ []) ++ l) (digits_four c d is) in
+    encodes-spelled_code c ∙ ap (λ n. 60 ∷ 85 ∷ (hex_digits n c ++ 62 ∷ [])) count ∙ ap (λ l. 60 ∷ 85 ∷ (l ++ 62 ∷ [])) both
 
 -- what follows a symbol stands behind it
 pub spelled_symbol-append : (name rest : List ℕ) → spelled_symbol name rest ≡ spelled_symbol name [] ++ rest

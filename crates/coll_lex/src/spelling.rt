@@ -7,7 +7,7 @@
 //! a change of its definition in `specs/`, and of the law that it is read back.
 ghost use Rattle.arrayvec.specs.ArrayVec.{array_vec_len};
 ghost use Rattle.coll_lex.specs.Characters.{less_than, greater_than};
-ghost use Rattle.std.specs.Prelude.{◌≡◌, ◌+◌, ◌<◌, ◌≤◌, [], ◌∷◌, ◌++◌, All, length, take, slice_index};
+ghost use Rattle.std.specs.Prelude.{◌≡◌, ◌+◌, ◌*◌, ◌<◌, ◌≤◌, [], ◌∷◌, ◌++◌, All, length, take, slice_index};
 ghost use Rattle.std.specs.Prelude.{chars, encode_utf8_all, IfNone, IfSome, true, false};
 ghost use Rattle.coll_devices.specs.Devices.{Writes};
 ghost use Rattle.coll_lex.specs.ReadingBack.{NamesReadBack, NamesReadBackQuoted, CodesReadBack, CodesReadBackQuoted};
@@ -23,6 +23,12 @@ const MOST_NAME_BYTES: usize = 4 * MOST_NAME_CHARS;
 // Most bytes of a symbol: its two brackets, and its name with an escape before each byte.
 const MOST_SYMBOL_BYTES: usize = 2 * MOST_NAME_BYTES + 2;
 
+// As many bytes as nearly all names have: their symbols are gathered in so much less room, which is cleared for each.
+const FEW_NAME_BYTES: usize = 15;
+
+// Most bytes of the symbol of such a name.
+const FEW_SYMBOL_BYTES: usize = 2 * FEW_NAME_BYTES + 2;
+
 /// Writes a name between `<` and `>`, with `/` before each `>` and `/` in it, as one write where it is short enough for
 /// a name.
 ///
@@ -34,7 +40,12 @@ pub fn write_symbol<W: Sink>(out: &mut W, name: &str) -> Result<(), WriteStop>
     if name.len() > MOST_NAME_BYTES {
         return write_long_symbol(out, name);
     }
-    write_bytes(out, symbol_bytes(name.as_bytes()).as_slice())
+    if name.len() > FEW_NAME_BYTES {
+        let bytes: ArrayVec<u8, MOST_SYMBOL_BYTES> = symbol_bytes(name.as_bytes());
+        return write_bytes(out, bytes.as_slice());
+    }
+    let bytes: ArrayVec<u8, FEW_SYMBOL_BYTES> = symbol_bytes(name.as_bytes());
+    write_bytes(out, bytes.as_slice())
 }
 
 /// Writes a character as `<U`, its code point in upper-case hexadecimal, and `>`. There are four
@@ -48,12 +59,13 @@ pub fn write_char<W: Sink>(out: &mut W, c: char) -> Result<(), WriteStop>
     let code = c as u32;
     let d = upper_hex(code);
     if code < 0x1_0000 {
-        write_bytes(out, &[b'<', b'U', d[4], d[5], d[6], d[7], b'>'])
+        write_bytes(out, &[b'<', b'U', d[0], d[1], d[2], d[3], b'>'])
     } else {
+        let h = upper_hex(code / 0x1_0000);
         write_bytes(
             out,
             &[
-                b'<', b'U', d[0], d[1], d[2], d[3], d[4], d[5], d[6], d[7], b'>',
+                b'<', b'U', h[0], h[1], h[2], h[3], d[0], d[1], d[2], d[3], b'>',
             ],
         )
     }
@@ -70,9 +82,9 @@ pub fn spellings_are_read_back()
     ensures codes_in_strings { CodesReadBackQuoted }
 {}
 
-// The spelling of a symbol whose name has these bytes.
-fn symbol_bytes(name: &[u8]) -> ArrayVec<u8, MOST_SYMBOL_BYTES>
-    requires { length name.now ≤ MOST_NAME_BYTES }
+// The spelling of a symbol whose name has these bytes, where there is room for an escape before each.
+fn symbol_bytes<const ROOM: usize>(name: &[u8]) -> ArrayVec<u8, ROOM>
+    requires { 2 * length name.now + 2 ≤ ROOM }
     ensures { result.items ≡ less_than ∷ (spelled_name name.now [] ++ greater_than ∷ []) }
 {
     let mut bytes = ArrayVec::new();
@@ -85,8 +97,8 @@ fn symbol_bytes(name: &[u8]) -> ArrayVec<u8, MOST_SYMBOL_BYTES>
 }
 
 // Puts a byte of a name at the end, with `/` before it if it is `>` or `/`.
-fn push_spelled(bytes: &mut ArrayVec<u8, MOST_SYMBOL_BYTES>, byte: u8)
-    requires { array_vec_len bytes.old + 2 ≤ MOST_SYMBOL_BYTES }
+fn push_spelled<const ROOM: usize>(bytes: &mut ArrayVec<u8, ROOM>, byte: u8)
+    requires { array_vec_len bytes.old + 2 ≤ ROOM }
     ensures spelled { bytes.new.items ≡ bytes.old.items ++ spelled_char byte [] }
     ensures room { array_vec_len bytes.new ≤ array_vec_len bytes.old + 2 }
 {
@@ -130,17 +142,20 @@ fn find_escaped(bytes: &[u8]) -> Option<usize>
     bytes.iter().position(|b| *b == b'>' || *b == b'/')
 }
 
-// The eight digits of a number in upper-case hexadecimal.
-fn upper_hex(number: u32) -> [u8; 8]
-    ensures { result ≡ hex_digits 8 number }
+// The last four digits of a number in upper-case hexadecimal.
+#[tactic(auto, unfolding(crate::specs::Spelling::hex_digits))]
+fn upper_hex(number: u32) -> [u8; 4]
+    ensures { result ≡ hex_digits 4 number }
 {
-    let mut digits = [b'0'; 8];
-    let mut rest = number;
-    for at in (0..8).rev() {
-        digits[at] = upper_hex_digit(rest % 16);
-        rest /= 16;
-    }
-    digits
+    let tens = number / 16;
+    let hundreds = tens / 16;
+    let thousands = hundreds / 16;
+    [
+        upper_hex_digit(thousands % 16),
+        upper_hex_digit(hundreds % 16),
+        upper_hex_digit(tens % 16),
+        upper_hex_digit(number % 16),
+    ]
 }
 
 // A hexadecimal digit in upper case.

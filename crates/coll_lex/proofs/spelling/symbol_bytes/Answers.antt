@@ -6,13 +6,13 @@ use Rattle.coll_lex.proofs.SpellingLemmas.{spelled_name-nil, spelled_name-push}
 use Rattle.coll_lex.proofs.spelling.symbol_bytes.Goals as goal
 
 pub name-init : goal.name-init
-name-init c =
+name-init g c =
     let items : c.push.new.self.items ≡ 60 ∷ [] = c.push.ensures.items ∙ ap (λ l. l ++ 60 ∷ []) c.new-bytes.ensures in
     let room : array_vec_len c.push.new.self ≤ 1 = omega (arith, ap length items) in
     record { items = items ∙ ap (λ l. 60 ∷ l) (sym (spelled_name-nil [])); room = room }
 
 pub name-preserved : goal.name-preserved
-name-preserved c =
+name-preserved g c =
     let name = c.args.name.now in
     let i = c.name.byte-index in
     let more = take_more name i 0 c.name-test.true in

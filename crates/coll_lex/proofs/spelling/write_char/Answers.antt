@@ -12,6 +12,6 @@ returns-then-code-lt65536 g c =
 pub returns-else-code-lt65536 : goal.returns-else-code-lt65536
 returns-else-code-lt65536 g c =
     record {
-      sent = rw (code_of_eight c.args.c c.upper_hex-d.result c.upper_hex-d.ensures c.if-code-lt65536.false) c.write_bytes-else-code-lt65536.ensures.sent;
+      sent = rw (code_of_eight c.args.c c.upper_hex-h.result c.upper_hex-d.result c.upper_hex-h.ensures c.upper_hex-d.ensures c.if-code-lt65536.false) c.write_bytes-else-code-lt65536.ensures.sent;
       errors = search rules;
     }
