@@ -33,10 +33,6 @@ pub record IsKeptFor (kept : KeptValue) (table : Collation) (layout : TableLayou
 abbrev pub kept_nothing : KeptValue
 kept_nothing = record { ranks = None; numbers = []; numbered = false; looked = 0 }
 
--- what is left behind a change: numbers that aren't fresh
-abbrev pub given_up : KeptValue → KeptValue
-given_up kept = record { ranks = None; numbers = kept.numbers; numbered = false; looked = 0 }
-
 -- a look can be served: by the ranks, or by numbers that are fresh
 abbrev pub CanServe : Option RanksValue → Bool → Type 0
 CanServe None numbered = numbered ≡ true

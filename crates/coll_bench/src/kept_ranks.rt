@@ -5,10 +5,9 @@
 //! the table is served by the places of the entries, which are given anew in a much shorter pass, and it looks up what the text asks
 //! for and no more. Such a look costs more by itself: where those since the last change have together more than 64 characters, and
 //! one more for each 32 entries, the ranks are made after all. What is kept is true of one table as it stands
-//! (`specs/Ranked.antt`). A statement, an undo and a redo go by it, so that the places follow them where that is told by the nodes
-//! that changed; whoever changes the table otherwise gives all up.
+//! (`specs/Ranked.antt`). What changes the table goes by it, so that the places follow where that is told by the nodes that changed.
 
-ghost use Rattle.std.specs.Prelude.{◌≡◌, ◌≢◌, ◌≤◌, ◌+◌, ◌||◌, true, false, chars, length, None, Ok, Err, IsSome, IfOk, IfErr, OnOk, OnErr};
+ghost use Rattle.std.specs.Prelude.{◌≡◌, ◌≢◌, ◌≤◌, ◌+◌, ◌||◌, true, false, chars, length, None, Ok, Err, IsSome, IsTrue, IfOk, IfErr, OnOk, OnErr};
 ghost use Rattle.coll_syntax.specs.Proper.{IsProper};
 ghost use Rattle.coll_nodes.specs.TableLayout.{collation};
 ghost use Rattle.coll_key.specs.KeyLimits.{is_too_long};
@@ -17,10 +16,13 @@ ghost use Rattle.coll_key.specs.TextOrder.{order_of};
 ghost use Rattle.coll_key.specs.WrittenKey.{has_key_form};
 ghost use Rattle.coll_key.specs.declared.key_faults.KeyFault.TheVariants.{OutOfMemory};
 ghost use Rattle.coll_table.specs.Record.{more_steps};
+ghost use Rattle.coll_table.specs.declared.refusals.Refusal.TheVariants as refusal;
 ghost use Rattle.coll_history.specs.Limits.{most_remaining};
+ghost use Rattle.coll_history.specs.Withdrawal.{is_numbered, withdrawn};
+ghost use Rattle.coll_history.specs.declared.history_faults.BenchFault.TheVariants as bench;
 ghost use Rattle.coll_history.specs.declared.history_faults.BenchFault.TheVariants.{HistoryFull};
 ghost use Rattle.coll_history.specs.Histories.{judged, taken_back, put_again, undo_steps, redo_steps, table_now, RefusesStatement};
-ghost use Rattle.coll_bench.specs.Ranked.{AreNumbersIf, AreRanksIfAny, CanServe, IsKeptFor, given_up};
+ghost use Rattle.coll_bench.specs.Ranked.{AreNumbersIf, AreRanksIfAny, CanServe, IsKeptFor};
 ghost use Rattle.coll_bench.specs.Ranked.{kept_nothing, looked_after, with_look};
 
 use coll_history::{BenchFault, Session};
@@ -77,15 +79,6 @@ impl KeptRanks {
         }
     }
 
-    /// Gives up what a change of the table has made untrue. What is then kept is true of every table.
-    pub(crate) fn give_up(&mut self)
-        ensures { self.new ≡ given_up self.old }
-    {
-        keep(&mut self.ranks, None);
-        self.numbered = false;
-        self.looked = 0;
-    }
-
     /// Has a session judge a statement. Where it is accepted, the ranks are given up, and the places follow it as far as that goes.
     pub(crate) fn statement(
         &mut self,
@@ -140,6 +133,27 @@ impl KeptRanks {
         ensures unchanged { OnErr result (session.new ≡ session.old) }
     {
         let count = session.redo_followed(&mut self.numbers, &mut self.numbered)?;
+        keep(&mut self.ranks, None);
+        self.looked = 0;
+        Ok(count)
+    }
+
+    /// Has a session withdraw a statement. The ranks are then given up, and the places follow it as far as that goes.
+    pub(crate) fn withdraw(&mut self, session: &mut Session, number: u32) -> Result<u32, BenchFault>
+        requires { IsKeptFor self.old (table_now session.old.history) session.old.layout }
+        ensures kept { IsKeptFor self.new (table_now session.new.history) session.new.layout }
+        ensures ranks { OnOk result (self.new.ranks ≡ None) }
+        ensures looked { OnOk result (self.new.looked ≡ 0) }
+        ensures withdrawn { IfOk result (λ _. withdrawn session.old.history number ≡ Ok session.new.history) }
+        ensures count { IfOk result (λ n. n ≡ length session.new.history.remaining) }
+        ensures refused { IfErr result (λ fault. fault ≢ bench.Table refusal.OutOfMemory → withdrawn session.old.history number ≡ Err fault) }
+        ensures memory { IfErr result (λ fault. fault ≡ bench.Table refusal.OutOfMemory → IsTrue (is_numbered session.old.history number)) }
+        ensures missing { withdrawn session.old.history number ≡ Err bench.NoSuchStatement → result ≡ Err bench.NoSuchStatement }
+        ensures missing_changes_nothing { withdrawn session.old.history number ≡ Err bench.NoSuchStatement → session.new ≡ session.old }
+        ensures unchanged { OnErr result (session.new.history ≡ session.old.history) }
+        ensures layout { OnErr result (session.new.layout ≡ session.old.layout) }
+    {
+        let count = session.withdraw_followed(number, &mut self.numbers, &mut self.numbered)?;
         keep(&mut self.ranks, None);
         self.looked = 0;
         Ok(count)

@@ -1,9 +1,9 @@
 //! A session with what is kept beside its table for keys and comparisons.
 //!
 //! Ranks, and places of entries, are made where a key or an order is asked for, and kept over commands and refusals. With each change
-//! of the table the ranks are given up: an accepted statement, an undo, a redo, a withdrawal. The places follow the first three as
-//! far as that goes, and are given up with a withdrawal. Whoever adds a call that changes the table gives both up there. Contracts
-//! see what they see of the session, and nothing that is kept.
+//! of the table the ranks are given up: an accepted statement, an undo, a redo, a withdrawal. The places follow these as far as that
+//! goes. Whoever adds a call that changes the table has it go by what is kept. Contracts see what they see of the session, and nothing
+//! that is kept.
 
 ghost use Rattle.std.specs.Prelude.{◌≡◌, ◌≢◌, ◌≤◌, ◌||◌, true, false, chars, length, IsTrue, IfOk, IfErr, OnOk, OnErr};
 ghost use Rattle.coll_syntax.specs.Proper.{IsProper};
@@ -120,8 +120,7 @@ impl RankedSession {
         ensures unchanged { OnErr result (self.new.history ≡ self.old.history) }
         ensures layout { OnErr result (self.new.layout ≡ self.old.layout) }
     {
-        let count = self.session.withdraw(number)?;
-        self.kept.give_up();
+        let count = self.kept.withdraw(&mut self.session, number)?;
         Ok(count)
     }
 

@@ -277,8 +277,8 @@ impl Session {
     }
 }
 
-// Has places of entries follow a record that was turned, where they are said to be those of the table before.
-fn follow(table: &Table, change: &Record, numbers: &mut EntryNumbers, fresh: &mut bool)
+/// Has places of entries follow a record that was turned, where they are said to be those of the table before.
+pub(crate) fn follow(table: &Table, change: &Record, numbers: &mut EntryNumbers, fresh: &mut bool)
     requires fits { Fits table.now change.now }
     requires places { AreNumbersWhere fresh.old numbers.old (turn table.now change.now).layout }
     ensures { AreNumbersWhere fresh.new numbers.new table.now.layout }

@@ -5,7 +5,7 @@ use Rattle.coll_history.specs.Kept.{uncounted}
 use Rattle.coll_history.specs.Withdrawal.{is_numbered, withdrawn}
 use Rattle.coll_history.specs.declared.history_faults.BenchFault.TheVariants.{NoSuchStatement}
 use Rattle.coll_history.proofs.WithdrawnStatements.{is_missing, not_missing, numbered_here}
-use Rattle.coll_history.proofs.histories.Session.withdraw.Goals as goal
+use Rattle.coll_history.proofs.histories.Session.withdraw_followed.Goals as goal
 
 pub returns-in_default-clause-refused : goal.returns-in_default-clause-refused
 returns-in_default-clause-refused c = λ other.
