@@ -7,7 +7,7 @@
 //! one more for each 32 entries, the ranks are made after all. What is kept is true of one table as it stands
 //! (`specs/Ranked.antt`). What changes the table goes by it, so that the places follow where that is told by the nodes that changed.
 
-ghost use Rattle.std.specs.Prelude.{◌≡◌, ◌≢◌, ◌≤◌, ◌+◌, ◌||◌, true, false, chars, length, None, Ok, Err, IsSome, IsTrue, IfOk, IfErr, OnOk, OnErr};
+ghost use Rattle.std.specs.Prelude.{◌≡◌, ◌≢◌, ◌≤◌, ◌+◌, ◌||◌, true, false, chars, length, None, Ok, Err, IsSome, IsTrue, IfSome, IfOk, IfErr, OnOk, OnErr};
 ghost use Rattle.coll_syntax.specs.Proper.{IsProper};
 ghost use Rattle.coll_nodes.specs.TableLayout.{collation};
 ghost use Rattle.coll_key.specs.KeyLimits.{is_too_long};
@@ -210,6 +210,26 @@ impl KeptRanks {
             Some(ranks) => compare(alloc, table, ranks, text, other),
             None => compare_texts(alloc, table, &self.numbers, text, other),
         }
+    }
+
+    /// Gives the entries of the table that this is kept for their places, unless these are there, and quick for so many characters.
+    /// Where memory is refused there are none, and what else is kept is true of the table as well.
+    pub(crate) fn give_places(&mut self, table: &Table, characters: usize) -> Result<(), AllocError>
+        requires { IsKeptFor self.old (collation table.now) table.now.layout }
+        ensures { IsKeptFor self.new (collation table.now) table.now.layout }
+    {
+        give_numbers(table, &mut self.numbers, &mut self.numbered, characters)
+    }
+
+    /// The places of the entries, where they are those of the table as it stands.
+    pub(crate) fn places(&self) -> Option<&EntryNumbers>
+        ensures numbered { IfSome result (λ _. self.now.numbered ≡ true) }
+        ensures places { IfSome result (λ places. places.now ≡ self.now.numbers) }
+    {
+        if self.numbered {
+            return Some(&self.numbers);
+        }
+        None
     }
 
     // Makes ready what serves a look for two texts with so many characters: the ranks where they are there, else the places for a

@@ -5,8 +5,9 @@
 //! goes. Whoever adds a call that changes the table has it go by what is kept. Contracts see what they see of the session, and nothing
 //! that is kept.
 
-ghost use Rattle.std.specs.Prelude.{◌≡◌, ◌≢◌, ◌≤◌, ◌||◌, true, false, chars, length, IsTrue, IfOk, IfErr, OnOk, OnErr};
+ghost use Rattle.std.specs.Prelude.{◌≡◌, ◌≢◌, ◌≤◌, ◌||◌, true, false, chars, length, IsTrue, IfSome, IfOk, IfErr, OnOk, OnErr};
 ghost use Rattle.coll_syntax.specs.Proper.{IsProper};
+ghost use Rattle.coll_nodes.specs.NodeNumbers.{AreNumbersOf};
 ghost use Rattle.coll_nodes.specs.TableLayout.{collation};
 ghost use Rattle.coll_key.specs.KeyLimits.{is_too_long};
 ghost use Rattle.coll_key.specs.SortKey.{key_of};
@@ -24,9 +25,10 @@ ghost use Rattle.coll_history.specs.Histories.{begun, judged, taken_back, put_ag
 use crate::kept_ranks::KeptRanks;
 use coll_history::{BenchFault, Session};
 use coll_key::KeyFault;
+use coll_lookups::EntryNumbers;
 use coll_syntax::Statement;
 use coll_table::Table;
-use std::alloc::Global;
+use std::alloc::{AllocError, Global};
 use std::cmp::Ordering;
 use std::marker::Model;
 
@@ -158,5 +160,20 @@ impl RankedSession {
     {
         let order = self.kept.compare(alloc, self.session.table(), text, other)?;
         Ok(order)
+    }
+
+    /// Gives the entries of the table now their places, for `places`, unless these are there, and quick for a look at so many
+    /// characters. Where memory is refused there are none. The history stays.
+    pub fn give_places(&mut self, characters: usize) -> Result<(), AllocError>
+        ensures { self.new ≡ self.old }
+    {
+        self.kept.give_places(self.session.table(), characters)
+    }
+
+    /// The places of the entries of the table now, where they are kept.
+    pub fn places(&self) -> Option<&EntryNumbers>
+        ensures { IfSome result (λ places. AreNumbersOf places.now self.now.layout) }
+    {
+        self.kept.places()
     }
 }

@@ -13,6 +13,7 @@ ghost use Rattle.coll_lex.specs.Faults.{ends_text};
 ghost use Rattle.coll_lex.specs.LogicalLines.{pending, number_of};
 ghost use Rattle.coll_lex.specs.Limits.{most_lines};
 ghost use Rattle.coll_syntax.specs.Proper.{IsProper};
+ghost use Rattle.coll_nodes.specs.NodeNumbers.{AreNumbersOf};
 ghost use Rattle.coll_nodes.specs.TableLayout.{collation};
 ghost use Rattle.coll_history.specs.Histories.{RefusesStatement, judged, put_again, taken_back};
 ghost use Rattle.coll_requests.specs.OpenBlocks.{kept_end_faults, kept_dropped_faults, kept_last_faults};
@@ -27,6 +28,7 @@ use crate::replies::{answer, refuse};
 use coll_devices::{ReadStop, Sink, WriteStop};
 use coll_history::{BenchFault, Session};
 use coll_lex::LexFault;
+use coll_lookups::EntryNumbers;
 use coll_requests::{FaultAt, LineParser, OpenBlock, RequestAt, RequestFault};
 use coll_syntax::Statement;
 use coll_table::Table;
@@ -140,6 +142,22 @@ impl RunState {
         ensures { result.now ≡ session_of self.now }
     {
         self.session.session()
+    }
+
+    /// Gives the entries of the table now their places, for `places`, unless these are there, and quick for a look at so many
+    /// characters. Where memory is refused there are none.
+    pub fn give_places(&mut self, characters: usize) -> Result<(), AllocError>
+        ensures { self.new ≡ self.old }
+    {
+        self.session.give_places(characters)
+    }
+
+    /// The places of the entries of the table now, where they are kept: after `give_places`, and as far as they have followed what
+    /// was changed since.
+    pub fn places(&self) -> Option<&EntryNumbers>
+        ensures { IfSome result (λ places. AreNumbersOf places.now (session_of self.now).layout) }
+    {
+        self.session.places()
     }
 
     /// Whether a block is open.

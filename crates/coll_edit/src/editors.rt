@@ -40,7 +40,7 @@ use coll_bench::{
     BenchFault, Fault, RunFault, RunState, TakesStatements, read_delta, write_failed,
 };
 use coll_devices::{ReadStop, Sink, Source, WriteStop};
-use coll_explanations::explain;
+use coll_explanations::{explain, explain_by_places};
 use coll_lex::{LexFault, TextBuf};
 use coll_requests::{Command, Request, RequestAt, RequestFault, StatementAt};
 use coll_syntax::{Statement, SyntaxFault};
@@ -339,7 +339,10 @@ impl Editor {
             OwnLine::Quit => Ok(Next::End),
             OwnLine::Words(name) => self.answer_words(name.get(), output, messages, files),
             OwnLine::Write(name) => self.answer_write(name.get(), output, messages, files),
-            _ => self.answer_table(own, output, messages),
+            _ => {
+                self.give_places(own);
+                self.answer_table(own, output, messages)
+            }
         }
     }
 
@@ -367,6 +370,22 @@ impl Editor {
         }
     }
 
+    // Gives the entries their places, where a line of `edit` looks something up by them. Where memory is refused there are none, and
+    // it goes without.
+    fn give_places(&mut self, own: &OwnLine)
+        ensures { self.new ≡ self.old }
+    {
+        match own {
+            OwnLine::Show(_) => {
+                let _ = self.run.give_places(1);
+            }
+            OwnLine::Explain(text, other) => {
+                let _ = self.run.give_places(characters_in(text, other));
+            }
+            _ => {}
+        }
+    }
+
     // Answers a line of `edit` that asks for nothing but the table and the history.
     fn answer_table<W: Sink, M: Sink>(
         &self,
@@ -391,7 +410,9 @@ impl Editor {
         output: &mut Watched<W>,
     ) -> Result<(), WriteStop> {
         match own {
-            OwnLine::Show(id) => write_shown(output, self.run.session().table(), id),
+            OwnLine::Show(id) => {
+                write_shown(output, self.run.session().table(), self.run.places(), id)
+            }
             OwnLine::Explain(text, other) => self.write_explained(text, other, output),
             OwnLine::Delta => {
                 write_statements(output, self.run.session())?;
@@ -411,13 +432,26 @@ impl Editor {
         other: &TextBuf,
         output: &mut Watched<W>,
     ) -> Result<(), WriteStop> {
-        let table = self.run.session().table();
-        match explain(self.alloc, table, text.get(), other.get(), output) {
+        match self.explained(text.get(), other.get(), output) {
             Ok(()) => flush(output),
             Err(ended) => match ended.fault {
                 Fault::Write(stop) => Err(stop),
                 fault => write_refusal(output, fault),
             },
+        }
+    }
+
+    // Writes an explanation, by the places of the entries where these are known.
+    fn explained<W: Sink>(
+        &self,
+        text: &str,
+        other: &str,
+        output: &mut Watched<W>,
+    ) -> Result<(), RunFault> {
+        let table = self.run.session().table();
+        match self.run.places() {
+            Some(places) => explain_by_places(self.alloc, table, places, text, other, output),
+            None => explain(self.alloc, table, text, other, output),
         }
     }
 
@@ -614,6 +648,12 @@ fn no_memory_at(input: usize, line: u32) -> RunFault
         line,
         fault: Fault::Lex(LexFault::OutOfMemory),
     }
+}
+
+// How many characters two texts have together.
+fn characters_in(text: &TextBuf, other: &TextBuf) -> usize {
+    let count = text.get().chars().count();
+    count.saturating_add(other.get().chars().count())
 }
 
 // Where the refusal of a line of `edit` comes from.

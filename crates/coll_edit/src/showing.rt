@@ -1,139 +1,172 @@
 //! An entry is shown: its rank, its weights and its section, and three neighbours on each side.
 //!
 //! A character without an entry stands where `UNDEFINED` does, or behind all entries where that has none; its neighbours are those of
-//! this place. None of this takes memory. One walk finds the place, keeps the entries that it met last, and goes on behind it only as
-//! far as neighbours are shown. No contract says what is shown: runs of `tests/runs` do.
+//! this place. None of this takes memory. Neighbours are found by their nodes, and the rank by the places of the entries, where these
+//! are known; else the entries before the one that is shown are counted. No contract says what is shown: runs of `tests/runs` do.
+
+ghost use Rattle.std.specs.Prelude.{IfSome};
+ghost use Rattle.coll_nodes.specs.NodeNumbers.{AreNumbersOf};
 
 use crate::replies::{flush, write_refusal};
 use crate::weights::write_weighed;
 use coll_bench::Fault;
 use coll_devices::{Sink, WriteStop};
-use coll_nodes::{Entry, Walk, WalkItem};
+use coll_nodes::{Entry, WalkItem};
 use coll_syntax::Id;
-use coll_table::{Refusal, Table};
+use coll_table::{EntryNumbers, Refusal, Table};
 use coll_texts::{Piece, write_pieces};
 
 // How many neighbours are shown on each side.
 const NEIGHBOURS: usize = 3;
 
-// What is looked for along a table.
-#[derive(Clone, Copy)]
-enum Sought<'a> {
-    // The entry of a character.
-    Char(char),
-    // The entry of an own name.
-    Name(&'a str),
-    // That of `UNDEFINED`.
-    Undefined,
-}
-
-// The entries that are shown before a place, the next one last.
-type Before<'a> = [Option<&'a Entry>; NEIGHBOURS];
+// The entries that are shown beside a place, in order.
+type Beside<'a> = [Option<&'a Entry>; NEIGHBOURS];
 
 // A place in a table: that of an entry, or the one behind all entries.
 #[derive(Clone, Copy)]
 struct Spot<'a> {
-    before: Before<'a>,
+    before: Beside<'a>,
     // The entry, if one stands there.
     entry: Option<&'a Entry>,
+    behind: Beside<'a>,
     // How many entries stand before it, and one more.
     rank: u64,
     // The name of its section, if it is in one that has a name.
     section: Option<&'a str>,
 }
 
-/// Writes what `:show` shows of an identifier, and flushes it.
-pub(crate) fn write_shown<W: Sink>(out: &mut W, table: &Table, id: &Id) -> Result<(), WriteStop> {
+/// Writes what `:show` shows of an identifier, and flushes it. The places are those of the table's entries, if they are known.
+pub(crate) fn write_shown<W: Sink>(
+    out: &mut W,
+    table: &Table,
+    places: Option<&EntryNumbers>,
+    id: &Id,
+) -> Result<(), WriteStop>
+    requires { IfSome places (λ numbers. AreNumbersOf numbers.now table.now.layout) }
+{
     match id {
-        Id::Char(c) => match table.entry(id) {
-            Some(_) => write_placed(out, table, Sought::Char(*c)),
-            None => write_absent(out, table, id),
+        Id::Char(_) => match table.entry(id) {
+            Some(entry) => write_spot(out, b"shown", None, spot_of(table, places, entry)),
+            None => write_spot(out, b"absent", Some(id), spot_of_absent(table, places)),
         },
         Id::Named(name) => match table.resolve(name.get()) {
-            Some(own) => write_placed(out, table, Sought::Name(own)),
+            Some(_) => write_placed(out, table, places, table.entry_of_name(name.get())),
             None => write_refusal(out, Fault::Table(Refusal::NotDeclared)),
         },
-        Id::Undefined => write_placed(out, table, Sought::Undefined),
+        Id::Undefined => write_placed(out, table, places, table.entry(id)),
     }
 }
 
-// Writes the entry that is looked for and those around it, or that it has no place.
-fn write_placed<W: Sink>(out: &mut W, table: &Table, sought: Sought<'_>) -> Result<(), WriteStop> {
-    let mut left = table.walk();
-    let spot = spot_of(&mut left, sought);
-    match spot.entry {
-        Some(_) => write_spot(out, b"shown", None, spot, &mut left),
+// Writes an entry and those around it, or that there is none.
+fn write_placed<W: Sink>(
+    out: &mut W,
+    table: &Table,
+    places: Option<&EntryNumbers>,
+    placed: Option<&Entry>,
+) -> Result<(), WriteStop>
+    requires { IfSome places (λ numbers. AreNumbersOf numbers.now table.now.layout) }
+{
+    match placed {
+        Some(entry) => write_spot(out, b"shown", None, spot_of(table, places, entry)),
         None => write_refusal(out, Fault::Table(Refusal::NotPlaced)),
     }
 }
 
-// Writes where a character without an entry comes.
-fn write_absent<W: Sink>(out: &mut W, table: &Table, id: &Id) -> Result<(), WriteStop> {
-    let mut left = table.walk();
-    let spot = spot_of(&mut left, Sought::Undefined);
-    write_spot(out, b"absent", Some(id), spot, &mut left)
+// The place of an entry.
+fn spot_of<'a>(table: &'a Table, places: Option<&EntryNumbers>, entry: &'a Entry) -> Spot<'a>
+    requires { IfSome places (λ numbers. AreNumbersOf numbers.now table.now.layout) }
+{
+    let id = entry.id();
+    Spot {
+        before: entries_up_to(table, table.entry_before(id)),
+        entry: Some(entry),
+        behind: entries_from(table, table.entry_behind(id)),
+        rank: rank_of(table, places, id),
+        section: table.section_name(id),
+    }
 }
 
-// The place of what is looked for on a walk, which then goes on behind it; or the place behind all entries, which is in no section.
-fn spot_of<'a>(left: &mut Walk<'a>, sought: Sought<'_>) -> Spot<'a> {
-    let mut before: Before<'a> = [None; NEIGHBOURS];
-    let mut section = None;
+// The place where a character without an entry comes.
+fn spot_of_absent<'a>(table: &'a Table, places: Option<&EntryNumbers>) -> Spot<'a>
+    requires { IfSome places (λ numbers. AreNumbersOf numbers.now table.now.layout) }
+{
+    match table.entry(&Id::Undefined) {
+        Some(entry) => spot_of(table, places, entry),
+        None => Spot {
+            before: entries_up_to(table, table.last_entry()),
+            entry: None,
+            behind: [None; NEIGHBOURS],
+            rank: (table.len() as u64).saturating_add(1),
+            section: None,
+        },
+    }
+}
+
+// The last entries up to one.
+fn entries_up_to<'a>(table: &'a Table, last: Option<&'a Entry>) -> Beside<'a> {
+    let second = entry_before(table, last);
+    [entry_before(table, second), second, last]
+}
+
+// The first entries from one on.
+fn entries_from<'a>(table: &'a Table, first: Option<&'a Entry>) -> Beside<'a> {
+    let second = entry_behind(table, first);
+    [first, second, entry_behind(table, second)]
+}
+
+// The entry before one, if both are there.
+fn entry_before<'a>(table: &'a Table, entry: Option<&'a Entry>) -> Option<&'a Entry> {
+    match entry {
+        Some(entry) => table.entry_before(entry.id()),
+        None => None,
+    }
+}
+
+// The entry behind one, if both are there.
+fn entry_behind<'a>(table: &'a Table, entry: Option<&'a Entry>) -> Option<&'a Entry> {
+    match entry {
+        Some(entry) => table.entry_behind(entry.id()),
+        None => None,
+    }
+}
+
+// The rank of an identifier that has an entry.
+fn rank_of(table: &Table, places: Option<&EntryNumbers>, id: &Id) -> u64
+    requires { IfSome places (λ numbers. AreNumbersOf numbers.now table.now.layout) }
+{
+    match places {
+        Some(places) => u64::from(table.entry_number(places, id).unwrap_or(0)),
+        None => counted_rank(table, id),
+    }
+}
+
+// The same, where the entries up to it are counted.
+fn counted_rank(table: &Table, id: &Id) -> u64 {
     let mut rank = 1u64;
+    let mut left = table.walk();
     'walk: while let Some(item) = left.next() {
-        match item {
-            WalkItem::Section(name) => section = Some(name),
-            WalkItem::Entry(entry) => {
-                if is_sought(entry, sought) {
-                    return Spot {
-                        before,
-                        entry: Some(entry),
-                        rank,
-                        section,
-                    };
-                }
-                before = with_next(before, entry);
-                rank = rank.saturating_add(1);
+        if let WalkItem::Entry(entry) = item {
+            if entry.id().is_same(id) {
+                return rank;
             }
+            rank = rank.saturating_add(1);
         }
     }
-    Spot {
-        before,
-        entry: None,
-        rank,
-        section: None,
-    }
+    rank
 }
 
-// Whether an entry is the one that is looked for.
-fn is_sought(entry: &Entry, sought: Sought<'_>) -> bool {
-    match (entry.id(), sought) {
-        (Id::Char(own), Sought::Char(c)) => *own == c,
-        (Id::Named(own), Sought::Name(name)) => own.get() == name,
-        (Id::Undefined, Sought::Undefined) => true,
-        _ => false,
-    }
-}
-
-// The entries before a place, once a further one stands there.
-fn with_next<'a>(before: Before<'a>, entry: &'a Entry) -> Before<'a> {
-    let [_, second, third] = before;
-    [second, third, Some(entry)]
-}
-
-// Writes a place with the entries around it: those before it, the one that stands there, and those behind it on a walk; and last what
-// was shown.
-fn write_spot<'a, W: Sink>(
+// Writes a place with the entries around it: those before it, the one that stands there, and those behind it; and last what was shown.
+fn write_spot<W: Sink>(
     out: &mut W,
     word: &[u8],
     id: Option<&Id>,
-    spot: Spot<'a>,
-    left: &mut Walk<'a>,
+    spot: Spot<'_>,
 ) -> Result<(), WriteStop> {
     write_before(out, &spot.before[..], spot.rank)?;
     if let Some(entry) = spot.entry {
         write_line(out, b"> ", spot.rank, entry)?;
     }
-    write_behind(out, left, spot.rank)?;
+    write_behind(out, &spot.behind[..], spot.rank)?;
     write_place(out, word, id, spot)
 }
 
@@ -155,27 +188,22 @@ fn write_before<W: Sink>(
     Ok(())
 }
 
-// Writes the entries behind the one with a rank, as many as are shown.
-fn write_behind<W: Sink>(out: &mut W, left: &mut Walk<'_>, rank: u64) -> Result<(), WriteStop> {
-    for distance in 1..=NEIGHBOURS {
-        let Some(entry) = next_entry(left) else {
-            return Ok(());
-        };
-        if let Err(stop) = write_line(out, b"  ", rank.saturating_add(distance as u64), entry) {
-            return Err(stop);
+// Writes the entries behind the one with a rank.
+fn write_behind<W: Sink>(
+    out: &mut W,
+    behind: &[Option<&Entry>],
+    rank: u64,
+) -> Result<(), WriteStop> {
+    let mut next = rank;
+    for kept in behind {
+        next = next.saturating_add(1);
+        if let Some(entry) = kept {
+            if let Err(stop) = write_line(out, b"  ", next, *entry) {
+                return Err(stop);
+            }
         }
     }
     Ok(())
-}
-
-// The next entry of a walk.
-fn next_entry<'a>(left: &mut Walk<'a>) -> Option<&'a Entry> {
-    'walk: while let Some(item) = left.next() {
-        if let WalkItem::Entry(entry) = item {
-            return Some(entry);
-        }
-    }
-    None
 }
 
 // Writes an entry behind a mark and its rank.

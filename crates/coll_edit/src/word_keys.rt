@@ -1,10 +1,11 @@
 //! What the keys of a list of words are made by.
 //!
 //! The ranks of a whole table are made in one pass over its entries, and then serve each word at once. Where the words have few
-//! characters beside the entries, these are only numbered, which is a much shorter pass, and each word looks up what it asks for and
-//! no more. How many are few may change: the words are the same.
+//! characters beside the entries, these only have to have their places, which a session mostly keeps, and each word looks up what it
+//! asks for and no more. How many are few may change: the words are the same.
 
-ghost use Rattle.std.specs.Prelude.{◌≡◌, ◌≢◌, chars, true, IfErr, IfOk};
+ghost use Rattle.std.specs.Prelude.{◌≡◌, ◌≢◌, chars, true, IfErr, IfOk, IfSome};
+ghost use Rattle.coll_nodes.specs.NodeNumbers.{AreNumbersOf};
 ghost use Rattle.coll_nodes.specs.TableLayout.{collation};
 ghost use Rattle.coll_key.specs.KeyLimits.{is_too_long};
 ghost use Rattle.coll_key.specs.declared.key_faults.KeyFault.TheVariants.{OutOfMemory};
@@ -32,19 +33,21 @@ pub(crate) enum WordKeys<'a> {
 }
 
 impl<'a> WordKeys<'a> {
-    /// What the keys of words are made by in a table, where so many characters are looked up for them. The numbers are given anew, or
-    /// stay.
+    /// What the keys of words are made by in a table, where so many characters are looked up for them: the places of its entries, if
+    /// they are given and the characters are few.
     pub fn new(
         alloc: Global,
         table: &Table,
-        numbers: &'a mut EntryNumbers,
+        places: Option<&'a EntryNumbers>,
         characters: usize,
     ) -> Result<WordKeys<'a>, AllocError>
+        requires { IfSome places (λ numbers. AreNumbersOf numbers.now table.now.layout) }
         ensures { IfOk result (λ keys. Serves keys table.now) }
     {
-        if are_few(table, characters) {
-            table.number_entries(numbers)?;
-            return Ok(WordKeys::ByNumbers(numbers));
+        if let Some(places) = places {
+            if are_few(table, characters) {
+                return Ok(WordKeys::ByNumbers(places));
+            }
         }
         let ranks = Ranks::new(alloc, table)?;
         Ok(WordKeys::ByRanks(ranks))
@@ -69,7 +72,7 @@ pub(crate) fn looks_for(text: &str) -> usize {
     text.chars().count().saturating_add(CHARACTERS_A_WORD)
 }
 
-// Whether so many characters are few beside a table.
-fn are_few(table: &Table, characters: usize) -> bool {
+/// Whether so many characters are few beside a table, so that the places of its entries serve.
+pub(crate) fn are_few(table: &Table, characters: usize) -> bool {
     characters <= table.len() / ENTRIES_A_CHARACTER
 }

@@ -10,10 +10,10 @@ ghost use Rattle.coll_bench.specs.Serving.{block_of, history_of, lexer_of};
 ghost use Rattle.coll_edit.specs.WordKeys.{Serves};
 
 use crate::replies::write_count;
-use crate::word_keys::{WordKeys, looks_for};
+use crate::word_keys::{WordKeys, are_few, looks_for};
 use coll_bench::{Fault, RunFault, RunState, write_failed};
 use coll_devices::{Sink, Source, WriteStop};
-use coll_key::{EntryNumbers, KeyFault};
+use coll_key::KeyFault;
 use coll_lex::{LexFault, TextBuf};
 use coll_table::Table;
 use coll_texts::{Piece, write_pieces};
@@ -69,9 +69,8 @@ fn list_words<R: Source>(
     ensures parser { lexer_of run.new ≡ lexer_of run.old }
 {
     let changed = run.session().remaining_len() > 0;
-    let mut numbers = EntryNumbers::new(alloc);
-    match read_before(alloc, run, &mut numbers, input) {
-        Ok(list) => list_anew(alloc, run.session().table(), &mut numbers, changed, list),
+    match read_before(alloc, run, input) {
+        Ok(list) => list_anew(alloc, run, changed, list),
         Err(ended) => Err(ended),
     }
 }
@@ -80,7 +79,6 @@ fn list_words<R: Source>(
 fn read_before<R: Source>(
     alloc: Global,
     run: &mut RunState,
-    numbers: &mut EntryNumbers,
     input: &mut R,
 ) -> Result<Vec<ListedWord>, RunFault>
     ensures history { history_of run.new ≡ history_of run.old }
@@ -89,35 +87,65 @@ fn read_before<R: Source>(
 {
     match run.undo() {
         Ok(_) => {
-            let read = read_keyed(alloc, run.session().table(), numbers, input);
+            let read = read_keyed(alloc, run, input);
             let _ = run.redo();
             read
         }
-        Err(_) => read_keyed(alloc, run.session().table(), numbers, input),
+        Err(_) => read_keyed(alloc, run, input),
     }
 }
 
-// The words of an input, with keys by a table.
+// The words of an input, with keys by the table of a session.
 fn read_keyed<R: Source>(
     alloc: Global,
-    table: &Table,
-    numbers: &mut EntryNumbers,
+    run: &mut RunState,
     input: &mut R,
-) -> Result<Vec<ListedWord>, RunFault> {
+) -> Result<Vec<ListedWord>, RunFault>
+    ensures { run.new ≡ run.old }
+{
     match read_texts(alloc, input) {
-        Ok(texts) => keyed(alloc, table, numbers, texts),
+        Ok(texts) => keyed(alloc, run, texts),
         Err(ended) => Err(ended),
     }
 }
 
-// Texts as words with keys by a table.
+// Texts as words with keys by the table of a session.
 fn keyed(
     alloc: Global,
-    table: &Table,
-    numbers: &mut EntryNumbers,
+    run: &mut RunState,
+    texts: Vec<TextBuf>,
+) -> Result<Vec<ListedWord>, RunFault>
+    ensures { run.new ≡ run.old }
+{
+    let looks = looks_for_texts(&texts);
+    match make_ready(run, looks) {
+        Ok(()) => keyed_by(alloc, run, looks, texts),
+        Err(_) => {
+            drop(texts);
+            Err(no_memory(0))
+        }
+    }
+}
+
+// Gives the entries of a session's table their places, where keys are looked up for so many characters by them.
+fn make_ready(run: &mut RunState, looks: usize) -> Result<(), AllocError>
+    ensures { run.new ≡ run.old }
+{
+    if are_few(run.session().table(), looks) {
+        run.give_places(looks)?;
+    }
+    Ok(())
+}
+
+// Texts as words with keys by the table of a session, whose entries have their places where that serves.
+fn keyed_by(
+    alloc: Global,
+    run: &RunState,
+    looks: usize,
     texts: Vec<TextBuf>,
 ) -> Result<Vec<ListedWord>, RunFault> {
-    match WordKeys::new(alloc, table, numbers, looks_for_texts(&texts)) {
+    let table = run.session().table();
+    match WordKeys::new(alloc, table, run.places(), looks) {
         Ok(keys) => {
             let list = listed(alloc, table, &keys, texts);
             drop(keys);
@@ -191,13 +219,14 @@ fn put_word(
 // statement has changed one.
 fn list_anew(
     alloc: Global,
-    table: &Table,
-    numbers: &mut EntryNumbers,
+    run: &mut RunState,
     changed: bool,
     words: Vec<ListedWord>,
-) -> Result<Vec<ListedWord>, RunFault> {
+) -> Result<Vec<ListedWord>, RunFault>
+    ensures { run.new ≡ run.old }
+{
     let mut list = words;
-    match sort_both(alloc, table, numbers, changed, &mut list) {
+    match sort_both(alloc, run, changed, &mut list) {
         Ok(()) => Ok(list),
         Err(fault) => {
             drop(list);
@@ -209,16 +238,19 @@ fn list_anew(
 // Sorts a list with keys by the table before, tells its words what stands beside them, and sorts it anew where the table has changed.
 fn sort_both(
     alloc: Global,
-    table: &Table,
-    numbers: &mut EntryNumbers,
+    run: &mut RunState,
     changed: bool,
     list: &mut Vec<ListedWord>,
-) -> Result<(), KeyFault> {
+) -> Result<(), KeyFault>
+    ensures { run.new ≡ run.old }
+{
     sort_listed(list)?;
     tell_before(list);
     tell_behind(list);
     if changed {
-        sort_anew(alloc, table, numbers, list)?;
+        let looks = looks_for_words(list);
+        make_ready(run, looks)?;
+        sort_anew(alloc, run, looks, list)?;
     }
     Ok(())
 }
@@ -226,11 +258,12 @@ fn sort_both(
 // Gives the words of a list keys by the table now, and sorts it by these.
 fn sort_anew(
     alloc: Global,
-    table: &Table,
-    numbers: &mut EntryNumbers,
+    run: &RunState,
+    looks: usize,
     list: &mut Vec<ListedWord>,
 ) -> Result<(), KeyFault> {
-    let keys = WordKeys::new(alloc, table, numbers, looks_for_words(list))?;
+    let table = run.session().table();
+    let keys = WordKeys::new(alloc, table, run.places(), looks)?;
     let keyed = key_anew(alloc, table, &keys, list);
     drop(keys);
     keyed?;

@@ -7,5 +7,5 @@ use Rattle.coll_explanations.specs.declared.rank_looks.RankLooks.TheVariants.{By
 
 -- it serves a table as that stands
 abbrev pub Serves : RankLooks → TableValue → Type 0
-Serves (ByNumbers numbers) table = AreNumbersOf numbers table.layout
+Serves (ByNumbers numbers) table = AreNumbersOf numbers.now table.layout
 Serves (ByRanks ranks) table = AreRanksOf ranks (collation table)

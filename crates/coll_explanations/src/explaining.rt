@@ -4,13 +4,14 @@
 //! (`specs/Explanations.antt`). The lists of a level are those that keys are made of, each number with where it comes from
 //! (`ToldLists`, `Sources`); the laws say so (`ExplanationLaws`).
 
-ghost use Rattle.std.specs.Prelude.{◌≡◌, ◌<◌, ◌≤◌, ◌∷◌, [], chars, false, length, map, option_map, IfOk, IfErr};
+ghost use Rattle.std.specs.Prelude.{◌≡◌, ◌<◌, ◌≤◌, ◌∷◌, [], chars, false, true, length, map, option_map, IfOk, IfErr, OnOk, OnErr};
 ghost use Rattle.coll_devices.specs.Devices.{Sends, Writes};
+ghost use Rattle.coll_nodes.specs.NodeNumbers.{AreNumbersOf};
 ghost use Rattle.coll_nodes.specs.TableLayout.{collation};
 ghost use Rattle.coll_elements.specs.Elements.{elements_of};
 ghost use Rattle.coll_key.specs.KeyLimits.{is_too_long};
 ghost use Rattle.coll_key.specs.TextOrder.{order_of};
-ghost use Rattle.coll_bench.specs.BatchOutcome.{fault_in, is_any_too_long};
+ghost use Rattle.coll_bench.specs.BatchOutcome.{fault_in, is_any_too_long, text_too_long};
 ghost use Rattle.coll_bench.specs.Serving.{CountsWrites, ReadsNone, write_failed};
 ghost use Rattle.coll_explanations.specs.Explaining.{Explains, WritesWhole, starved};
 ghost use Rattle.coll_explanations.specs.ExplanationLaws.{FirstDifferencesAreTold, OrdersAreOfLevels};
@@ -27,7 +28,7 @@ use crate::weighing::Weighing;
 use coll_bench::{Fault, RunFault};
 use coll_devices::{Sink, WriteStop};
 use coll_elements::{ElementEntry, split_text};
-use coll_key::{KeyFault, is_too_long};
+use coll_key::{EntryNumbers, KeyFault, is_too_long};
 use coll_syntax::{Id, Rule};
 use coll_table::Table;
 use std::alloc::{AllocError, Global};
@@ -51,31 +52,56 @@ pub fn explain<W: Sink>(
     ensures reads { IfErr result (λ ended. ReadsNone ended) }
     ensures writes { CountsWrites (W.failed output.old) (W.failed output.new) result }
 {
-    if is_too_long(text) {
-        return Err(no_line(Fault::Key(KeyFault::TextTooLong)));
+    if let Err(ended) = check_lengths(text, other) {
+        return Err(ended);
     }
-    if is_too_long(other) {
-        return Err(no_line(Fault::Key(KeyFault::TextTooLong)));
-    }
-    explain_short(alloc, table, text, other, output)
+    let mut numbers = EntryNumbers::new(alloc);
+    let looks = RankLooks::new(alloc, table, &mut numbers, characters_in(text, other));
+    let explained = explain_with(alloc, table, looks, text, other, output);
+    drop(numbers);
+    explained
 }
 
-// The same of texts that aren't too long.
-fn explain_short<W: Sink>(
+/// The same where the places of the table's entries are known: they aren't given anew.
+pub fn explain_by_places<W: Sink>(
     alloc: Global,
     table: &Table,
+    places: &EntryNumbers,
+    text: &str,
+    other: &str,
+    output: &mut W,
+) -> Result<(), RunFault>
+    requires { AreNumbersOf places.now table.now.layout }
+    ensures run { Explains (collation table.now) (chars text.now) (chars other.now) (W.taken output.old) (W.taken output.new) result }
+    ensures input { IfErr result (λ ended. ended.input ≡ 0) }
+    ensures reads { IfErr result (λ ended. ReadsNone ended) }
+    ensures writes { CountsWrites (W.failed output.old) (W.failed output.new) result }
+{
+    if let Err(ended) = check_lengths(text, other) {
+        return Err(ended);
+    }
+    let looks = RankLooks::by_places(alloc, table, places, characters_in(text, other));
+    explain_with(alloc, table, looks, text, other, output)
+}
+
+// The same of texts that aren't too long, by what tells the ranks of the table, unless memory was refused to that.
+fn explain_with<W: Sink>(
+    alloc: Global,
+    table: &Table,
+    looks: Result<RankLooks<'_>, AllocError>,
     text: &str,
     other: &str,
     output: &mut W,
 ) -> Result<(), RunFault>
     requires short { is_any_too_long (chars text.now ∷ chars other.now ∷ []) ≡ false }
+    requires looks { IfOk looks (λ looks. Serves looks table.now) }
     ensures run { WritesWhole (explanation (collation table.now) (chars text.now) (chars other.now)) (W.taken output.old)
         (W.taken output.new) result }
     ensures input { IfErr result (λ ended. ended.input ≡ 0) }
     ensures reads { IfErr result (λ ended. ReadsNone ended) }
     ensures writes { CountsWrites (W.failed output.old) (W.failed output.new) result }
 {
-    match RankLooks::new(alloc, table, characters_in(text, other)) {
+    match looks {
         Ok(looks) => {
             let explained = explain_by(alloc, table, &looks, text, other, output);
             drop(looks);
@@ -83,6 +109,21 @@ fn explain_short<W: Sink>(
         }
         Err(_) => Err(no_memory()),
     }
+}
+
+// Refuses two texts of which one is too long to have a key.
+fn check_lengths(text: &str, other: &str) -> Result<(), RunFault>
+    ensures short { OnOk result (is_any_too_long (chars text.now ∷ chars other.now ∷ []) ≡ false) }
+    ensures long { OnErr result (is_any_too_long (chars text.now ∷ chars other.now ∷ []) ≡ true) }
+    ensures fault { IfErr result (λ ended. ended ≡ text_too_long) }
+{
+    if is_too_long(text) {
+        return Err(no_line(Fault::Key(KeyFault::TextTooLong)));
+    }
+    if is_too_long(other) {
+        return Err(no_line(Fault::Key(KeyFault::TextTooLong)));
+    }
+    Ok(())
 }
 
 // How many characters two texts have together.
@@ -94,7 +135,7 @@ fn characters_in(text: &str, other: &str) -> usize {
 fn explain_by<W: Sink>(
     alloc: Global,
     table: &Table,
-    looks: &RankLooks,
+    looks: &RankLooks<'_>,
     text: &str,
     other: &str,
     output: &mut W,
@@ -130,7 +171,7 @@ struct Compared {
 fn compare_both(
     alloc: Global,
     table: &Table,
-    looks: &RankLooks,
+    looks: &RankLooks<'_>,
     text: &str,
     other: &str,
 ) -> Result<Compared, KeyFault>
@@ -186,7 +227,7 @@ fn id_of(element: ElementEntry<'_>) -> Result<Id, AllocError>
 // Writes the explanation of two texts that were compared.
 fn write_compared<'a, W: Sink>(
     table: &'a Table,
-    looks: &'a RankLooks,
+    looks: &'a RankLooks<'a>,
     compared: &'a Compared,
     output: &mut W,
 ) -> Result<(), RunFault>

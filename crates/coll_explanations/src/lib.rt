@@ -19,5 +19,6 @@ mod rank_looks;
 mod weighing;
 
 pub use explaining::{
-    explain, first_differences_are_told, told_levels_decide, told_numbers_are_listed,
+    explain, explain_by_places, first_differences_are_told, told_levels_decide,
+    told_numbers_are_listed,
 };

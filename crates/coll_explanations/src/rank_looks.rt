@@ -1,10 +1,11 @@
 //! What tells the ranks of a table's identifiers, and the order of two texts.
 //!
 //! The ranks of a whole table are made in one pass over its entries. Where the texts have few characters beside the entries, these
-//! are only numbered, which is a much shorter pass, and what is asked for is looked up by itself. How many are few may change: what
-//! is told is the same.
+//! are only numbered, which is a much shorter pass, unless their places are known already, and what is asked for is looked up by
+//! itself. How many are few may change: what is told is the same.
 
 ghost use Rattle.std.specs.Prelude.{◌≡◌, ◌≢◌, ◌||◌, chars, length, true, unwrap_or, IfErr, IfOk};
+ghost use Rattle.coll_nodes.specs.NodeNumbers.{AreNumbersOf};
 ghost use Rattle.coll_nodes.specs.Table.{entries_of};
 ghost use Rattle.coll_nodes.specs.TableLayout.{collation};
 ghost use Rattle.coll_elements.specs.Rank.{known_rank, rank_unplaced};
@@ -24,25 +25,46 @@ const ENTRIES_A_CHARACTER: usize = 16;
 
 /// What tells ranks and orders by one table as it stands.
 #[derive(Drop)]
-pub(crate) enum RankLooks {
+pub(crate) enum RankLooks<'a> {
     /// The places of the table's entries.
-    ByNumbers(EntryNumbers),
+    ByNumbers(&'a EntryNumbers),
     /// The ranks of the whole table.
     ByRanks(Ranks),
 }
 
-impl RankLooks {
-    /// What tells ranks and orders by a table where texts have so many characters, in new memory.
-    pub fn new(alloc: Global, table: &Table, characters: usize) -> Result<RankLooks, AllocError>
+impl<'a> RankLooks<'a> {
+    /// What tells ranks and orders by a table where texts have so many characters. The numbers are given anew, or stay.
+    pub fn new(
+        alloc: Global,
+        table: &Table,
+        numbers: &'a mut EntryNumbers,
+        characters: usize,
+    ) -> Result<RankLooks<'a>, AllocError>
         ensures { IfOk result (λ looks. Serves looks table.now) }
     {
-        if characters > table.len() / ENTRIES_A_CHARACTER {
-            let ranks = Ranks::new(alloc, table)?;
-            return Ok(RankLooks::ByRanks(ranks));
+        if are_few(table, characters) {
+            table.number_entries(numbers)?;
+            return Ok(RankLooks::ByNumbers(numbers));
         }
-        let mut numbers = EntryNumbers::new(alloc);
-        table.number_entries(&mut numbers)?;
-        Ok(RankLooks::ByNumbers(numbers))
+        let ranks = Ranks::new(alloc, table)?;
+        Ok(RankLooks::ByRanks(ranks))
+    }
+
+    /// The same where the entries have their places.
+    pub fn by_places(
+        alloc: Global,
+        table: &Table,
+        places: &'a EntryNumbers,
+        characters: usize,
+    ) -> Result<RankLooks<'a>, AllocError>
+        requires { AreNumbersOf places.now table.now.layout }
+        ensures { IfOk result (λ looks. Serves looks table.now) }
+    {
+        if are_few(table, characters) {
+            return Ok(RankLooks::ByNumbers(places));
+        }
+        let ranks = Ranks::new(alloc, table)?;
+        Ok(RankLooks::ByRanks(ranks))
     }
 
     /// The order of two texts by the table.
@@ -76,6 +98,11 @@ impl RankLooks {
             RankLooks::ByRanks(ranks) => ranks.rank(id).unwrap_or(0),
         }
     }
+}
+
+// Whether so many characters are few beside a table.
+fn are_few(table: &Table, characters: usize) -> bool {
+    characters <= table.len() / ENTRIES_A_CHARACTER
 }
 
 // The rank of an identifier without an entry, and 0 for one that has none: `UNDEFINED` stands behind all entries.

@@ -29,7 +29,7 @@ pub(crate) struct ElementIds<'a> {
 #[derive(Drop)]
 pub(crate) struct Weighing<'a> {
     table: &'a Table,
-    looks: &'a RankLooks,
+    looks: &'a RankLooks<'a>,
     // The identifier `UNDEFINED`.
     undefined: &'a Id,
 }
@@ -58,7 +58,7 @@ impl<'a> Weighing<'a> {
     ghost use Rattle.coll_explanations.specs.Sources.{sources_at};
 
     /// A table with what tells its ranks, and the identifier `UNDEFINED`.
-    pub(crate) fn new(table: &'a Table, looks: &'a RankLooks, undefined: &'a Id) -> Weighing<'a>
+    pub(crate) fn new(table: &'a Table, looks: &'a RankLooks<'a>, undefined: &'a Id) -> Weighing<'a>
         requires looks { Serves looks.now table.now }
         requires undefined { undefined.now ≡ Undefined }
         ensures { result ≡ collation table.now }

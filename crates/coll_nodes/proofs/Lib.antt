@@ -19,6 +19,7 @@ pub mod LinkedBodies
 pub mod MadeBodies
 pub mod MadeNodes
 pub mod MovedBodies
+pub mod NeighbourLemmas
 pub mod NodeCounts
 pub mod NodeLemmas
 pub mod NodeLists

@@ -12,6 +12,7 @@ ghost use Rattle.coll_nodes.specs.SoundBodies.{entry_if};
 
 mod elements;
 mod linking;
+mod neighbouring;
 mod numbering;
 mod own_names;
 

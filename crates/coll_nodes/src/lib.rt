@@ -9,7 +9,8 @@
 //! - `node_keys`: which node has a name, a string or an identifier, by the look-ups of `coll_lookups` (`KeyedNodes`);
 //! - `bodies`, `bodies/own_names` and `bodies/linking`: the whole, with its look-ups and `counts`, what names stand for, and what
 //!   is put in, moved and taken out (`SoundBodies`, `SoundLayouts`, `BodyInvariant`, `Counting`, `OwnNames`, `Linking`);
-//! - `walks` and `visited_nodes`: a body, read in order (`Walks`, `WalkStates`, `WalkItems`);
+//! - `walks` and `visited_nodes`: a body, read in order (`Walks`, `WalkStates`, `WalkItems`); `neighbours` and
+//!   `bodies/neighbouring`: what stands beside an entry;
 //! - `numbered_rings` and `bodies/numbering`: the places of entries, kept beside a body, and those of names, kept apart from it
 //!   (`NodeNumbers`); `bodies/elements`: elements by their strings (`ElementTexts`);
 //! - and, for all who judge lines and statements, `Causes`.
@@ -21,6 +22,7 @@ mod counts;
 mod declarations;
 mod entries;
 mod limits;
+mod neighbours;
 mod node_keys;
 mod nodes;
 mod numbered_rings;

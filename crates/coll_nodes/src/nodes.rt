@@ -6,7 +6,7 @@
 ghost use Rattle.std.specs.Prelude.{map, ◌≡◌, ◌∷◌, ◌++◌, [], Some, None, IsSome, false, true, length, ◌<◌, IfOk, OnOk, OnErr};
 ghost use Rattle.coll_order.specs.Changes.{one_step_more, next_ring, with_node, with_ring};
 ghost use Rattle.coll_order.specs.Layout.{is_in, place_from, tag_of};
-ghost use Rattle.coll_order.specs.Lists.{first_in, end_of};
+ghost use Rattle.coll_order.specs.Lists.{first_in, end_of, has_node};
 ghost use Rattle.coll_order.specs.declared.places.Place.TheVariants.{Head};
 
 use crate::contents::Content;
@@ -194,6 +194,23 @@ impl Nodes {
     {
         self.rings.lemma_layout();
         self.rings.next(node)
+    }
+
+    /// What stands directly before a linked node.
+    pub(crate) fn place(&self, node: NodeId) -> Place
+        requires { is_in self.now.layout.rings node ≡ true }
+        ensures place { place_from 0 self.now.layout.rings node ≡ Some result }
+        ensures there { IsPlaceAmong self.now.layout.rings result }
+    {
+        self.rings.place(node)
+    }
+
+    /// The ring in which a linked node stands.
+    pub(crate) fn ring(&self, node: NodeId) -> RingId
+        requires { is_in self.now.layout.rings node ≡ true }
+        ensures { has_node (nodes_in self.now.layout result) node ≡ true }
+    {
+        self.rings.ring(node)
     }
 
     /// The number of ring steps taken, modulo 2 to the power 64.

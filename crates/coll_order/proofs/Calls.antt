@@ -6,8 +6,8 @@ use Rattle.std.proofs.lemmas.List.{get_or_past}
 use Rattle.std.specs.FinMap as finmap
 use Rattle.coll_order.specs.Changes.{with_ring, with_node, without_node, unlinked, linked}
 use Rattle.coll_order.specs.Laid.{tags_from, walks, rings_at, layout_at, IsRun, AreRuns, Holds, IsHeld, KnowsEnds, IsKept}
-use Rattle.coll_order.specs.Layout.{Layout, head_of, is_in, place_of, rings_with, rings_without, tag_of, first_of, end_of_ring, IsLinked, IsLoose, IsNode, IsPlace, IsRing}
-use Rattle.coll_order.specs.Lists.{same_node, same_place}
+use Rattle.coll_order.specs.Layout.{Layout, head_of, is_in, nodes_of, place_of, rings_with, rings_without, tag_of, first_of, end_of_ring, IsLinked, IsLoose, IsNode, IsPlace, IsRing}
+use Rattle.coll_order.specs.Lists.{has_node, same_node, same_place}
 use Rattle.coll_order.specs.Sound.{IsSound}
 use Rattle.coll_order.specs.Store.{Links, slot_at, next_at, before_at, tag_at, own_ring, ring_of, last_at, IsStored}
 use Rattle.coll_order.specs.Store.{IsStoredIfAny, HasPlace, KeepsNodes, Joins, Detaches, SetsRing, MovesEnd, Inserts, Removes}
@@ -19,7 +19,7 @@ use Rattle.coll_order.specs.declared.store.Node.{Node}
 use Rattle.coll_order.proofs.Ends.{own_ring_is, ended, same_ends, linked_ends, unlinked_ends, pushed_ends}
 use Rattle.coll_order.proofs.Sameness.{by_test, not_both, same_node_is, other_node, other_place}
 use Rattle.coll_order.proofs.LayoutLemmas.{place_among, loose_unlinked, linked_linked, place_unlinked}
-use Rattle.coll_order.proofs.RingLemmas.{is_in_push}
+use Rattle.coll_order.proofs.RingLemmas.{in_some, is_in_push}
 use Rattle.coll_order.proofs.StoreLemmas.{keeps_both}
 use Rattle.coll_order.proofs.Runs.{place_is, within, rings_are, held, apart_is, linked_is, first_leads_in, stand_once}
 use Rattle.coll_order.proofs.Tags.{tag_is, same_tags, inserted_tags, removed_tags}
@@ -122,6 +122,20 @@ ring_there links (After node) ring is there at =
     let count = is.ends.count in
     let below = own_ring_is links (rings_at links) is.ends node ring there at in
     omega (arith, count, below)
+
+-- a linked node stands in the ring that is stored with it
+pub stands_in_own : (links : Links) (node : NodeId) (found : Node) → IsKept links → IsLinked (layout_at links) node → slot_at links node ≡ Some found
+    → has_node (nodes_of (layout_at links) found.ring) node ≡ true
+stands_in_own links node found is there read =
+    let at = in_some (rings_at links) node there in
+    let own : Some (record { index = at.0 }) ≡ Some found.ring = sym (is.ends.stands (record { index = at.0 }) node at.1) ∙ ap (option_map (λ (n : Node). n.ring)) read in
+    let same : record { index = at.0 } ≡ found.ring = cc in
+    subst (λ (ring : RingId). has_node (nodes_of (layout_at links) ring) node ≡ true) same at.1
+
+-- the place before a node is the one that is stored
+pub stored_place : (links : Links) (node : NodeId) (found : Node) (place : Place) → IsHeld links → slot_at links node ≡ Some found → found.before ≡ Some place
+    → place_of (layout_at links) node ≡ Some place
+stored_place links node found place held read stands = place_is links (rings_at links) held node ∙ (before_read links node found read ∙ stands)
 
 -- the place behind the last node of a ring is the one that is stored
 pub last_is : (links : Links) (ring : RingId) → IsKept links → IsRing (layout_at links) ring → last_at links ring ≡ end_of_ring (layout_at links) ring

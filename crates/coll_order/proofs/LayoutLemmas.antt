@@ -52,6 +52,13 @@ place_unlinked layout node place at = elim (place_of_rings 0 layout.rings node p
       (is_in_without node here.0 layout.rings (other_node here.0 node (λ same. place_from_other 0 layout.rings node place at (here.1 ∙ ap After same))) ∙ here.2)
 ]
 
+-- and while it stands there
+pub place_linked : (layout : Layout) (node : NodeId) (place : Place) → place_of layout node ≡ Some place → IsPlace layout place
+place_linked layout node place at = elim (place_of_rings 0 layout.rings node place at) [
+  | inl here ↦ subst (λ p. IsPlace layout p) (sym here.1) (let below = here.3 in omega arith)
+  | inr here ↦ subst (λ p. IsPlace layout p) (sym here.1) here.2
+]
+
 -- the other nodes are linked where they were, once a node is out
 pub linked_unlinked : (layout : Layout) (node other : NodeId) → same_node other node ≡ false → is_in (unlinked layout node).rings other ≡ is_in layout.rings other
 linked_unlinked layout node other differ = is_in_without node other layout.rings differ

@@ -6,9 +6,10 @@
 //! writes the few links that it changes, and its proof says which lists they then hold. A new call has to leave links that
 //! hold lists, and the ring of each node and the end of each ring stored, and to count a step only if it moves a node.
 
-ghost use Rattle.std.specs.Prelude.{◌≡◌, ◌↔◌, IsTrue, None, Some, IfOk, OnOk, OnErr};
+ghost use Rattle.std.specs.Prelude.{◌≡◌, ◌↔◌, IsTrue, true, None, Some, IfOk, OnOk, OnErr};
 ghost use Rattle.coll_order.specs.Changes.{empty_store, with_ring, next_ring, with_node, without_node, unlinked, linked, one_step_more};
-ghost use Rattle.coll_order.specs.Layout.{first_of, end_of_ring, next_of, place_of, tag_of, IsLinked, IsLoose, IsNode, IsPlace, IsRing};
+ghost use Rattle.coll_order.specs.Layout.{first_of, end_of_ring, next_of, nodes_of, place_of, tag_of, IsLinked, IsLoose, IsNode, IsPlace, IsRing};
+ghost use Rattle.coll_order.specs.Lists.{has_node};
 ghost use Rattle.coll_order.specs.Sound.{IsSound};
 
 use crate::places::{NodeId, Place, RingId};
@@ -139,6 +140,26 @@ impl Rings {
         ensures { result ≡ next_of self.now.layout node }
     {
         self.store.next(Place::After(node))
+    }
+
+    /// What stands directly before a linked node.
+    pub fn place(&self, node: NodeId) -> Place
+        requires linked { IsLinked self.now.layout node }
+        ensures place { place_of self.now.layout node ≡ Some result }
+        ensures there { IsPlace self.now.layout result }
+    {
+        match self.store.node(node).before {
+            Some(place) => place,
+            None => unreachable!(),
+        }
+    }
+
+    /// The ring in which a linked node stands.
+    pub fn ring(&self, node: NodeId) -> RingId
+        requires linked { IsLinked self.now.layout node }
+        ensures { has_node (nodes_of self.now.layout result) node ≡ true }
+    {
+        self.store.node(node).ring
     }
 
     /// The tag of a node.

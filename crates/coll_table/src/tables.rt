@@ -5,6 +5,7 @@
 //! What is read here takes no memory. How a body holds its nodes may change without a clause here.
 
 ghost use Rattle.std.specs.Prelude.{◌≡◌, ◌<◌, ℕ, List, None, chars, length, option_copied, option_map, IfOk, OnOk};
+ghost use Rattle.std.specs.Option.{option_and_then};
 ghost use Rattle.coll_syntax.specs.declared.identifiers.Id.TheVariants.{Named};
 
 use coll_devices::{Sink, WriteStop};
@@ -166,12 +167,41 @@ impl Table {
         self.body.name_places(alloc, numbers)
     }
 
+    /// The entry directly before that of an identifier, in all sections joined, if both are there. It takes no memory.
+    pub fn entry_before(&self, id: &Id) -> Option<&Entry> {
+        self.body.entry_before(id)
+    }
+
+    /// The entry directly behind that of an identifier, in all sections joined, if both are there. It takes no memory.
+    pub fn entry_behind(&self, id: &Id) -> Option<&Entry> {
+        self.body.entry_behind(id)
+    }
+
+    /// The last entry of all, if there is one. It takes no memory.
+    pub fn last_entry(&self) -> Option<&Entry> {
+        self.body.last_entry()
+    }
+
+    /// The name of the section in which the entry of an identifier stands, if there is one, and it has a name. It takes no memory.
+    pub fn section_name(&self, id: &Id) -> Option<&str> {
+        self.body.section_name(id)
+    }
+
     /// The own name of a declared name: for a second name that of its symbol. It takes no memory.
     #[tactic(auto, unfolding(coll_nodes::specs::TableLayout::collation))]
     pub fn resolve(&self, name: &str) -> Option<&str>
         ensures { option_map (λ own. chars own.now) result ≡ own_name (collation self.now).declared (chars name.now) }
     {
         self.body.resolve(name)
+    }
+
+    /// The entry of what a declared name stands for, if that has one. It takes no memory.
+    #[tactic(auto, unfolding(coll_nodes::specs::TableLayout::collation))]
+    pub fn entry_of_name(&self, name: &str) -> Option<&Entry>
+        ensures { option_copied result ≡ option_and_then (λ own. entry_at (entries_of (collation self.now)) (Named own))
+            (own_name (collation self.now).declared (chars name.now)) }
+    {
+        self.body.entry_of_name(name)
     }
 
     /// Whether an identifier is a collating symbol. It takes no memory.

@@ -9,8 +9,8 @@ ghost use Rattle.coll_nodes.specs.OwnNames.{stands_for};
 ghost use Rattle.coll_nodes.specs.SoundBodies.{declaration_if};
 
 use super::Body;
-use crate::Declaration;
 use crate::contents::Content;
+use crate::{Declaration, Entry};
 use coll_lex::TextBuf;
 
 // The declaration that a node is, if it is one.
@@ -36,9 +36,12 @@ fn own_name_of(declaration: &Declaration) -> &TextBuf
 
 impl Body {
     ghost use Rattle.std.specs.List.{list_any};
+    ghost use Rattle.std.specs.Option.{option_and_then};
+    ghost use Rattle.coll_syntax.specs.declared.identifiers.Id.TheVariants.{Named};
     ghost use Rattle.coll_nodes.specs.OwnNames.{declaration_of as declaration_at, declares_second, own_name};
-    ghost use Rattle.coll_nodes.specs.Table.{is_own_name, is_symbol_name};
-    ghost use Rattle.coll_nodes.specs.TableLayout.{declared_at};
+    ghost use Rattle.coll_nodes.specs.Placement.{entry_at};
+    ghost use Rattle.coll_nodes.specs.Table.{is_own_name, is_symbol_name, joined_entries};
+    ghost use Rattle.coll_nodes.specs.TableLayout.{declared_at, sections_at};
 
     /// The declaration of a name, if it is declared.
     pub fn declaration(&self, name: &str) -> Option<&Declaration>
@@ -71,6 +74,17 @@ impl Body {
             Some(declaration) => Some(own_name_of(declaration).get()),
             None => None,
         }
+    }
+
+    /// The entry of what a declared name stands for, if that has one.
+    pub fn entry_of_name(&self, name: &str) -> Option<&Entry>
+        ensures { option_copied result ≡ option_and_then (λ own. entry_at (joined_entries (sections_at self.now.layout)) (Named own))
+            (own_name (declared_at self.now.layout) (chars name.now)) }
+    {
+        if let Some(declaration) = self.declaration(name) {
+            return self.entry_named(own_name_of(declaration));
+        }
+        None
     }
 
     /// Whether a name is declared as an own name.
