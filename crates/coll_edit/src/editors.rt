@@ -34,6 +34,7 @@ use crate::replies::{flush, write_count, write_refusal};
 use crate::showing::write_shown;
 use crate::statements::write_statements;
 use crate::watched::Watched;
+use crate::word_keys::are_few;
 use crate::word_lists::write_words;
 use coll_advice::{Found, faults_of};
 use coll_bench::{
@@ -380,7 +381,10 @@ impl Editor {
                 let _ = self.run.give_places(1);
             }
             OwnLine::Explain(text, other) => {
-                let _ = self.run.give_places(characters_in(text, other));
+                let looks = characters_in(text, other);
+                if are_few(self.run.session().table(), looks) {
+                    let _ = self.run.give_places(looks);
+                }
             }
             _ => {}
         }

@@ -1,7 +1,7 @@
 //! An entry is shown: its rank, its weights and its section, and three neighbours on each side.
 //!
 //! A character without an entry stands where `UNDEFINED` does, or behind all entries where that has none; its neighbours are those of
-//! this place. None of this takes memory. Neighbours are found by their nodes, and the rank by the places of the entries, where these
+//! this place. Nothing here takes memory. Neighbours are found by their nodes, and the rank by the places of the entries, where these
 //! are known; else the entries before the one that is shown are counted. No contract says what is shown: runs of `tests/runs` do.
 
 ghost use Rattle.std.specs.Prelude.{IfSome};

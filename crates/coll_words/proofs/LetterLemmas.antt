@@ -32,8 +32,8 @@ use Rattle.coll_nodes.specs.WellFormed.{IsWellFormed}
 use Rattle.coll_key.proofs.KeyOrder.{keys_in_order}
 use Rattle.coll_key.specs.SortKey.{key_of}
 use Rattle.coll_key.proofs.OrderLemmas.{order_from}
-use Rattle.coll_key.specs.LevelList.{items, items_of, level_list, level_lists_from, listed, position_of}
-use Rattle.coll_key.specs.TextOrder.{first_difference, level_lists, list_order, order_of}
+use Rattle.coll_key.specs.LevelList.{items, items_of, level_list, listed, position_of}
+use Rattle.coll_key.specs.TextOrder.{level_lists, list_order, order_of}
 use Rattle.coll_words.specs.ElementMarks.{AreAlone, AreMarked, AreMarks, BeginsOther, GoesOnOther, IsApart, IsSameAt, KeepMarks, StandsAlone, TellsOf}
 use Rattle.coll_words.specs.LetterWeights.{BeginWith, DecidesBoth, GoesOn, IsFirstLetter, IsLetterRow, IsOrderToText, IsRowOf, IsStep, IsStepAtEnd, IsStepOfBoth, IsStepOfParts, LeavesParts, OrdersAlike, OrdersSo, PartsAlike, list_behind, order_at_end, order_behind, order_of_parts, text_items, text_numbers}
 use Rattle.coll_words.specs.declared.element_marks.ElementMarks.{ElementMarks}

@@ -2,9 +2,7 @@
 use Rattle.std.proofs.Common.{◌≡◌, ◌≢◌, ℕ, zero, suc, ◌+◌, ◌-◌, ◌<◌, ◌≤◌, ◌==◌, Bool, false, if◌then◌else◌, List, [], ◌∷◌, ◌++◌, length, map, take, drop, get_or, set, Option}
 use Rattle.std.proofs.Common.{eq-eqb, refl, sym, ap, subst, ◌∙◌, arith, append-nil, append_assoc, get_or-set_same, get_or-set_other}
 use Rattle.std.specs.List.Sorted.{IsPermutation, IsSortedBy, IsSorted, IsSortedWithin}
-use Rattle.std.proofs.lemmas.List.Elements.{All-cons}
 use Rattle.std.proofs.lemmas.List.Sorted.{IsPermutation-refl}
-use Rattle.coll_key.proofs.KeyOrder.{All-first, All-others}
 use Rattle.std.specs.Ordering.{is_lt, nat_cmp, ordering_then}
 use Rattle.std.proofs.lemmas.List.{length-map, map-append, get_or-map, map-set, set-get_or, set-append_right, take_more, length-take, length-drop, get_or-drop, get_or-append_right, take_all, drop_all}
 use Rattle.std.specs.Io.KnownBytes.{Appends}

@@ -27,6 +27,8 @@ pub(crate) struct Letters {
     pub places: CodePoints,
     /// Whether no character was left out, no word is long, and those that may hold an element are few.
     pub all: bool,
+    /// Whether a word may hold an element.
+    pub joined: bool,
     /// How many elements were declared when they were gathered.
     pub elements: usize,
     /// How often they were gathered.
@@ -50,6 +52,7 @@ impl Letters {
             text: String::new(alloc),
             places: CodePoints::new(alloc),
             all: times < MOST_TIMES,
+            joined: false,
             elements: marks.count(),
             times: times.saturating_add(1),
             count: 0,
@@ -62,6 +65,7 @@ impl Letters {
                 return Ok(letters);
             }
             if letters.add_all(word, marks, most)? {
+                letters.joined = true;
                 letters.all = letters.all && word.len() <= left;
                 left = left.saturating_sub(word.len());
             }

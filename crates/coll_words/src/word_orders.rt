@@ -51,6 +51,8 @@ pub(crate) struct LetterOrder<'a> {
     pub weights: LetterWeights,
     /// The places of the characters.
     pub places: &'a CodePoints,
+    /// Whether a word may hold an element: it is compared by its text then, which takes far longer.
+    pub joined: bool,
     /// The places of the table's entries.
     pub numbers: &'a EntryNumbers,
 }
@@ -110,6 +112,7 @@ fn letter_order<'a>(
     Ok(LetterOrder {
         weights,
         places: &letters.places,
+        joined: letters.joined,
         numbers,
     })
 }
@@ -231,12 +234,13 @@ fn order_by_letters(
     }
 }
 
-/// Whether the order of words may be guessed: their characters have rows, and the first level is looked at from the front.
+/// Whether the order of words may be guessed: they are their characters, which have rows, and the first level is looked at from the
+/// front. A guess is looked at once more, so words that are compared by their texts go without.
 pub(crate) fn can_guess(table: &Table, order: &WordOrder<'_>) -> bool {
     match order {
         WordOrder::ByRanks(_) => false,
-        WordOrder::ByLetters(_) => match table.rules().first() {
-            Some(rule) => !rule.backward && !rule.position,
+        WordOrder::ByLetters(letters) => match table.rules().first() {
+            Some(rule) => !(letters.joined || rule.backward || rule.position),
             None => false,
         },
     }

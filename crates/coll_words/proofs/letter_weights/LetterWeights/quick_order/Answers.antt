@@ -1,5 +1,5 @@
 -- The first level that decides is the order, and where none does it is `Equal`.
-use Rattle.std.proofs.Common.{◌≡◌, ◌∙◌, chars, false, get_or, sym}
+use Rattle.std.proofs.Common.{◌∙◌, chars, sym}
 use Rattle.coll_nodes.specs.TableLayout.{collation}
 use Rattle.coll_elements.specs.Elements.{elements_of}
 use Rattle.coll_ranks.specs.WeightNumbers.{numbers_at}

@@ -3,8 +3,7 @@ use Rattle.std.proofs.Common.{length, sym, ◌∙◌}
 use Rattle.std.proofs.lemmas.Bool.{eqb-true}
 use Rattle.std.proofs.lemmas.List.{nil_from_length}
 use Rattle.coll_nodes.specs.TableLayout.{collation}
-use Rattle.coll_ranks.specs.LevelWeights.{level_numbers}
-use Rattle.coll_words.proofs.LetterLemmas.{none_at_end, some_at_end}
+use Rattle.coll_words.proofs.LetterLemmas.{none_at_end}
 use Rattle.coll_words.proofs.letter_weights.LetterWeights.step_at_end.Goals as goal
 
 pub returns-then-is_empty : goal.returns-then-is_empty

@@ -1,5 +1,5 @@
 -- The numbers are compared one by one, and where one element has more of them, with what stands behind the other one.
-use Rattle.std.proofs.Common.{◌≡◌, ◌*◌, ◌∙◌, ℕ, length, map, chars, ap, subst, sym}
+use Rattle.std.proofs.Common.{◌≡◌, ◌*◌, ◌∙◌, ℕ, map, chars, ap, subst, sym}
 use Rattle.std.proofs.lemmas.List.{nil_from_length}
 use Rattle.std.specs.Ordering.{nat_cmp}
 use Rattle.coll_nodes.specs.TableLayout.{collation}
