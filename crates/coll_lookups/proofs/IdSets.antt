@@ -2,8 +2,7 @@
 use Rattle.std.proofs.Common.{◌≡◌, ℕ, Bool, true, false, ◌||◌, cond, nat_eq, List, [], ◌∷◌, ◌++◌, map, sym, ap, ◌∙◌, refl}
 use Rattle.std.specs.List.{list_any}
 use Rattle.std.proofs.lemmas.List.Folds.{list_any-append}
-use Rattle.std.proofs.lemmas.Bool.Decides.{Decides-eqb}
-use Rattle.coll_lookups.proofs.Sameness.{same_name_decides, decided_symmetric}
+use Rattle.coll_lookups.proofs.Sameness.{same_name_decides}
 use Rattle.coll_syntax.specs.Identifier.{same_name, same_id, has_name, has_id}
 use Rattle.coll_lookups.specs.IdSets.{with_name, ids_in_set, AddsId}
 use Rattle.coll_syntax.specs.declared.identifiers.Id.{Id}
@@ -94,15 +93,11 @@ adds_name names characters undefined name Undefined =
     found_place (with_name names name) characters undefined Undefined ∙ sym (found_place names characters undefined Undefined)
 
 -- with one character more, a look-up has that character more
-pub adds_char : (names : List (List ℕ)) (old new : List ℕ) (undefined : Bool) (c : ℕ) → ((q : ℕ) → list_any (nat_eq q) new ≡ cond (nat_eq c q) true (list_any (nat_eq q) old))
+pub adds_char : (names : List (List ℕ)) (old new : List ℕ) (undefined : Bool) (c : ℕ) → ((other : ℕ) → list_any (nat_eq other) new ≡ (nat_eq other c || list_any (nat_eq other) old))
     → AddsId (ids_in_set names old undefined) (ids_in_set names new undefined) (Char c)
 adds_char names old new undefined c h (Char other) =
     found_place names new undefined (Char other)
-    ∙ (h other ∙ (ap (λ b. cond b true (list_any (nat_eq other) old)) (decided_symmetric nat_eq Decides-eqb c other) ∙ (either (nat_eq other c) _
-    ∙ ap (λ b. nat_eq other c || b) (sym (found_place names old undefined (Char other)))))) where
-      either : (a b : Bool) → cond a true b ≡ (a || b)
-      either true b = refl
-      either false b = refl
+    ∙ (h other ∙ ap (λ b. nat_eq other c || b) (sym (found_place names old undefined (Char other))))
 adds_char names old new undefined c h (Named other) =
     found_place names new undefined (Named other) ∙ sym (found_place names old undefined (Named other))
 adds_char names old new undefined c h Undefined =

@@ -1,4 +1,6 @@
 mod CharNodes
+mod CharPages
+mod CharSets
 pub mod IdSets
 pub mod FollowedNumbers
 mod NameNodes

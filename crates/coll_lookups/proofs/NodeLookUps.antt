@@ -1,5 +1,5 @@
 -- Nodes in look-ups by hash: what is found, what one more does, and what a write to a key does.
-use Rattle.std.proofs.Common.{◌≡◌, Bool, true, false, ◌||◌, cond, is_some, unwrap_or, List, [], ◌∷◌, Option, Some, None, Decides, sym, ap, ◌∙◌, refl}
+use Rattle.std.proofs.Common.{◌≡◌, Bool, true, false, ◌||◌, cond, is_some, List, [], ◌∷◌, Option, Some, None, Decides, sym, ap, ◌∙◌, refl}
 use Rattle.std.specs.Map.{lookup, set_value}
 use Rattle.std.proofs.lemmas.Bool.{false≢true}
 use Rattle.indexmap.specs.IndexMap.{insert_entry}
@@ -12,11 +12,6 @@ use Rattle.coll_lookups.specs.NodeMaps.{leads, AreKeys}
 abbrev pub found : Option (Option NodeId) → Option NodeId
 found None = None
 found (Some node) = node
-
--- it is the node, or none in its place
-pub found_or : (led : Option (Option NodeId)) → unwrap_or led None ≡ found led
-found_or None = refl
-found_or (Some node) = refl
 
 module _ {K Key : Type 0} (same : Key → Key → Bool) (decides : (a b : Key) → Decides (same a b) (a ≡ b)) (key : K → Key) (good : K → Type 0) where
   module _ (test : K → Bool) (wanted : Key) (tests : (k : K) → good k → test k ≡ same wanted (key k)) where

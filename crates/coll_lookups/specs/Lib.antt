@@ -1,3 +1,6 @@
+pub mod CharNodes
+pub mod CharPages
+pub mod CharSets
 pub mod EntryNumbers
 pub mod HashKeys
 pub mod IdSets

@@ -1,4 +1,4 @@
--- What look-ups of nodes keep: names, characters, and the nodes that they lead to.
+-- What look-ups of nodes by name keep: names, and the nodes that they lead to.
 use Rattle.std.specs.Prelude.{ℕ, nat_lt, List, [], ◌∷◌, ◌++◌, Option, if◌then◌else◌, length, map, slice_set}
 use Rattle.coll_order.specs.declared.places.NodeId.{NodeId}
 use Rattle.coll_lookups.specs.NameKeys.{name_of_key}
@@ -12,10 +12,6 @@ leads key entries = map (λ e. record { key = key e.0; node = e.1 }) entries
 -- the names of entries, and where they lead
 abbrev pub names_lead : List (NameKey × Option NodeId) → List (Leading (List ℕ))
 names_lead entries = leads name_of_key entries
-
--- the characters of entries, and where they lead
-abbrev pub chars_lead : List (ℕ × Option NodeId) → List (Leading ℕ)
-chars_lead entries = leads (λ c. c) entries
 
 -- this holds of each key
 abbrev pub AreKeys : {K : Type 0} → (K → Type 0) → List (K × Option NodeId) → Type 0

@@ -1,15 +1,15 @@
-//! Sets of identifiers, with a look-up by hash.
+//! Sets of identifiers: names are looked up by hash, characters by code point.
 //!
 //! An `IdSet` is a list of identifiers in no stated order: what a contract says of it is which identifiers it has, and all
-//! else may change. It takes memory for them, and for no others. A new kind of identifier is a look-up more.
+//! else may change. It takes memory for its names, and for the pages of its characters. A new kind of identifier is a look-up more.
 
 ghost use Rattle.std.specs.Prelude.{◌≡◌, [], OnOk, OnErr};
 ghost use Rattle.coll_syntax.specs.Identifier.{has_id};
 
+use crate::HashKeys;
+use crate::char_sets::CharSet;
 use crate::names::Names;
-use crate::{HashKeys, WordKeys};
 use coll_syntax::Id;
-use indexmap::IndexSet;
 use std::alloc::{AllocError, Global};
 use std::marker::Model;
 
@@ -17,7 +17,7 @@ use std::marker::Model;
 #[derive(Drop)]
 pub struct IdSet {
     names: Names,
-    chars: IndexSet<char, WordKeys>,
+    chars: CharSet,
     undefined: bool,
 }
 
@@ -28,7 +28,7 @@ impl Model for IdSet {
 
     ghost Value = { List Id };
 
-    ghost view = { λ p. ids_in_set p.names p.chars.keys p.undefined };
+    ghost view = { λ p. ids_in_set p.names p.chars p.undefined };
 }
 
 impl IdSet {
@@ -40,7 +40,7 @@ impl IdSet {
     {
         IdSet {
             names: Names::new(alloc, keys),
-            chars: IndexSet::with_hasher(alloc, WordKeys::new(keys)),
+            chars: CharSet::new(alloc),
             undefined: false,
         }
     }
@@ -50,7 +50,7 @@ impl IdSet {
         ensures { result ≡ has_id self.now id.now }
     {
         match id {
-            Id::Char(c) => self.chars.contains(c),
+            Id::Char(c) => self.chars.contains(*c),
             Id::Named(name) => self.names.contains(name),
             Id::Undefined => self.undefined,
         }
@@ -62,9 +62,7 @@ impl IdSet {
         ensures err { OnErr result (self.new ≡ self.old) }
     {
         match id {
-            Id::Char(c) => {
-                self.chars.insert(*c)?;
-            }
+            Id::Char(c) => self.chars.insert(*c)?,
             Id::Named(name) => self.names.insert(name.get())?,
             Id::Undefined => self.undefined = true,
         }

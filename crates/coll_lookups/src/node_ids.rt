@@ -1,16 +1,16 @@
-//! Nodes by identifier, with look-ups by hash.
+//! Nodes by identifier: names are looked up by hash, characters by code point.
 //!
-//! A `NodeIds` says which node an identifier leads to: a name by `NodeNames`, a character by a look-up of its own. An identifier
-//! that leads to none may stay as a key. A new kind of identifier is a look-up more.
+//! A `NodeIds` says which node an identifier leads to: a name by `NodeNames`, a character by `CharNodes`. An identifier that leads
+//! to none may stay as a key. A new kind of identifier is a look-up more.
 
 ghost use Rattle.std.specs.Prelude.{◌≡◌, true, not, Some, is_some, unwrap_or, IfOk, OnOk, OnErr};
 
+use crate::HashKeys;
+use crate::char_nodes::CharNodes;
 use crate::node_names::NodeNames;
-use crate::{HashKeys, WordKeys};
 use coll_lex::TextBuf;
 use coll_order::NodeId;
 use coll_syntax::Id;
-use indexmap::IndexMap;
 use std::alloc::{AllocError, Global};
 use std::marker::Model;
 
@@ -18,31 +18,30 @@ use std::marker::Model;
 #[derive(Drop)]
 pub struct NodeIds {
     names: NodeNames,
-    characters: IndexMap<char, Option<NodeId>, WordKeys>,
+    characters: CharNodes,
     undefined: Option<NodeId>,
 }
 
 impl Model for NodeIds {
     ghost use Rattle.coll_lookups.specs.NodeLookUps.{NodesById};
-    ghost use Rattle.coll_lookups.specs.NodeMaps.{chars_lead};
 
     ghost Value = { NodesById };
 
-    ghost view = { λ n. record { names = n.names; characters = chars_lead n.characters.entries; undefined = n.undefined } };
+    ghost view = { λ n. record { names = n.names; characters = n.characters; undefined = n.undefined } };
 }
 
 impl NodeIds {
     ghost use Rattle.coll_syntax.specs.declared.identifiers.Id.TheVariants.{Named};
     ghost use Rattle.coll_lookups.specs.NodeLookUps.{no_nodes, node_with, is_id_key, SetsId, AddsIdKey, LeadAlike, KeepIdKeys};
 
-    /// No identifiers. It takes memory for what copies share. Names and characters are looked up under these keys.
+    /// No identifiers. It takes memory for what copies share. Names are looked up under these keys.
     pub fn new(alloc: Global, keys: HashKeys) -> Result<NodeIds, AllocError>
         ensures { IfOk result (λ made. made ≡ no_nodes) }
     {
         let names = NodeNames::new(alloc, keys)?;
         Ok(NodeIds {
             names,
-            characters: IndexMap::with_hasher(alloc, WordKeys::new(keys)),
+            characters: CharNodes::new(alloc),
             undefined: None,
         })
     }
@@ -52,10 +51,7 @@ impl NodeIds {
         ensures { result ≡ node_with self.now id.now }
     {
         match id {
-            Id::Char(c) => match self.characters.get(c) {
-                Some(node) => *node,
-                None => None,
-            },
+            Id::Char(c) => self.characters.find(*c),
             Id::Named(name) => self.find_name(name),
             Id::Undefined => self.undefined,
         }
@@ -115,8 +111,8 @@ impl NodeIds {
     {
         match id {
             Id::Char(c) => {
-                let led = self.characters.insert(*c, node)?;
-                Ok(led.unwrap_or(None))
+                let led = self.characters.put(*c, node)?;
+                Ok(led)
             }
             Id::Named(name) => {
                 let led = self.names.put(name, node)?;
@@ -137,12 +133,7 @@ impl NodeIds {
         ensures keys { KeepIdKeys self.old self.new }
     {
         match id {
-            Id::Char(c) => {
-                let Some(place) = self.characters.get_mut(c) else {
-                    unreachable!();
-                };
-                *place = node;
-            }
+            Id::Char(c) => self.characters.set(*c, node),
             Id::Named(name) => self.names.set(name, node),
             Id::Undefined => self.undefined = node,
         }
@@ -165,7 +156,7 @@ impl NodeIds {
             undefined,
         } = self;
         let names = names.try_copy(alloc)?;
-        let characters = characters.clone()?;
+        let characters = characters.try_copy(alloc)?;
         Ok(NodeIds {
             names,
             characters,

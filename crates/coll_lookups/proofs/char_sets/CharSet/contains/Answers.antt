@@ -1,0 +1,17 @@
+-- A character is there where its mark says so.
+use Rattle.std.proofs.Common.{◌≡◌, Some, None, sym, ◌∙◌}
+use Rattle.coll_lookups.specs.CharPages.{place_of}
+use Rattle.coll_lookups.proofs.CharSets.{found_at_place, found_nowhere}
+use Rattle.coll_lookups.proofs.char_sets.CharSet.contains.Goals as goal
+
+pub returns-in-Some : goal.returns-in-Some
+returns-in-Some c =
+    let p = c.self.inside in
+    let at : place_of p.pages.items c.args.c ≡ Some c.in-Some.place = rw c.deref.ensures.value at (sym c.place_of.ensures ∙ c.in-Some.is) in
+    rw (← c.self.view_is) (found_at_place p.pages.items p.marks.items c.args.c c.in-Some.place c.index.result.now c.self.invariant at c.index.ensures)
+
+pub returns-in-None : goal.returns-in-None
+returns-in-None c =
+    let p = c.self.inside in
+    let none : None ≡ place_of p.pages.items c.args.c = rw c.deref.ensures.value at (sym c.in-None.is ∙ c.place_of.ensures) in
+    rw (← c.self.view_is) (found_nowhere p.pages.items p.marks.items c.args.c none)

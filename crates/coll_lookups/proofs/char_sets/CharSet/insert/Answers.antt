@@ -1,0 +1,17 @@
+-- A character is put in.
+use Rattle.std.proofs.Common.{rules}
+use Rattle.coll_lookups.proofs.CharSets.{marked_more, same_marked}
+use Rattle.coll_lookups.proofs.char_sets.CharSet.insert.Goals as goal
+
+pub returns-in_err-place-clause-err : goal.returns-in_err-place-clause-err
+returns-in_err-place-clause-err c =
+    let p = c.self.inside in
+    let stays = same_marked p.pages.items p.marks.items c.make_place.new.pages.items c.make_place.new.slots.items c.in_err-place.ensures.same c.in_err-place.ensures.longer in
+    rw (← c.self.view_is) (search rules)
+
+pub returns-clause-ok : goal.returns-clause-ok
+returns-clause-ok c =
+    let p = c.self.inside in
+    let made = c.in_ok-place.ensures in
+    rw (← c.self.view_is)
+    (marked_more p.pages.items p.marks.items c.make_place.new.pages.items c.make_place.new.slots.items made.same made.pages c.args.c c.in_ok-place.place made.place)
