@@ -10,4 +10,5 @@ pub mod ParsingLemmas
 pub mod LineStops
 pub mod NumeralLemmas
 pub mod PhysicalTaking
+pub mod PlainLines
 pub mod TakingLemmas

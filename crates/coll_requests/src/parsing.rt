@@ -1,7 +1,7 @@
 //! Parsing the lines of a session or of a delta file.
 //!
 //! A physical line is handed to the lexer; where it ends a logical line, that line is a command, a line of a delta,
-//! or refused. What a line is depends on no table and on no block. What is parsed is proper, since the tokens of the lexer
+//! or refused. A line of a block that makes no token is read where it stands. What a line is depends on no table and on no block. What is parsed is proper, since the tokens of the lexer
 //! are as the grammar asks for.
 
 ghost use Rattle.std.specs.Prelude.{◌≡◌, ◌≤◌, Bool, IfOk, IfErr, IfSome, OnErr, Ok, Err, option_map};
@@ -23,7 +23,7 @@ use crate::request_faults::RequestFault;
 use crate::session_lines::{Opening, Parsed, ParsedLine, StandaloneLine};
 use coll_devices::without_return;
 use coll_lex::{EarlyEnd, LexFault, Lexer, Line, Token, past_blanks};
-use coll_syntax::{DeltaLine, Statement, SyntaxFault, parse_delta_line};
+use coll_syntax::{DeltaLine, Statement, SyntaxFault, parse_delta_line, parse_plain_delta};
 use std::alloc::{AllocError, Global};
 use std::marker::Model;
 
@@ -82,7 +82,8 @@ impl LineParser {
     }
 
     /// Takes one more physical line, and answers what the logical line is that it ends, if it ends one with a token.
-    /// The lines of a session may be commands, those of a delta file may not.
+    /// The lines of a session may be commands, those of a delta file may not. Nearly all lines of large blocks are order lines: such a
+    /// line is read from its text, and no token is made of it.
     ///
     /// Where memory is refused, the line is a refused one, and the logical line so far is dropped.
     pub(crate) fn parse(&mut self, alloc: Global, commands: bool, line: &[u8]) -> Option<Parsing>
@@ -93,6 +94,31 @@ impl LineParser {
         ensures proper { IfSome result (λ parsing. IsProperParsed parsing.line.parsed) }
     {
         let opening = self.opening_at(line);
+        let Some(text) = self.lexer.plain_text(line) else {
+            return self.parse_fed(alloc, commands, opening, line);
+        };
+        match parse_plain_delta(alloc, &self.lexer, text) {
+            Ok(Some(read)) => Some(self.passed(opening, accepted(read))),
+            Ok(None) => self.parse_fed(alloc, commands, opening, line),
+            Err(_) => Some(self.passed(opening, no_memory(opening))),
+        }
+    }
+
+    // Parses a physical line token by token.
+    fn parse_fed(
+        &mut self,
+        alloc: Global,
+        commands: bool,
+        opening: Opening,
+        line: &[u8],
+    ) -> Option<Parsing>
+        requires { opening ≡ opening_of (first_line self.old line.now) }
+        ensures parsed { (starved : Bool)
+            × Parses commands starved self.old self.new line.now (option_map (λ (parsing : Parsing). parsing.line) result) }
+        ensures opening { IfSome result (λ parsing. parsing.opening ≡ opening) }
+        ensures number { IfSome result (λ parsing. parsing.line.number ≡ number_of self.old) }
+        ensures proper { IfSome result (λ parsing. IsProperParsed parsing.line.parsed) }
+    {
         let number = self.lexer.next_number();
         match self.lexer.feed(line) {
             Err(fault) => {
@@ -113,6 +139,19 @@ impl LineParser {
                     opening,
                 })
             }
+        }
+    }
+
+    // A logical line that was read where it stands, and is counted.
+    fn passed(&mut self, opening: Opening, parsed: Parsed) -> Parsing
+        ensures line { result ≡ record { line = record { number = number_of self.old; parsed = parsed }; opening = opening } }
+        ensures passes { self.new ≡ dropped self.old }
+    {
+        let number = self.lexer.next_number();
+        self.lexer.pass_line();
+        Parsing {
+            line: ParsedLine { number, parsed },
+            opening,
         }
     }
 

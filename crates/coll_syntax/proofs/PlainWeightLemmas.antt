@@ -1,5 +1,5 @@
--- Weights of the line of a character, which are read where they stand.
-use Rattle.std.proofs.Common.{◌≡◌, ℕ, ◌<◌, ◌≤◌, ◌==◌, nat_le, true, false, List, [], ◌∷◌, ◌++◌, length, map, chars, codes, Ok, refl, ap, sym, ◌∙◌, arith}
+-- Weights of an order line, which are read where they stand.
+use Rattle.std.proofs.Common.{◌≡◌, ℕ, ◌<◌, ◌≤◌, ◌==◌, nat_le, true, false, List, [], ◌∷◌, ◌++◌, length, map, chars, codes, Option, Some, None, Ok, refl, ap, sym, ◌∙◌, arith}
 use Rattle.std.proofs.lemmas.Bool.Decides.{nat_tests}
 use Rattle.std.proofs.lemmas.List.{length-map, map-append}
 use Rattle.coll_lex.specs.Marked.{is_joined}
@@ -9,7 +9,7 @@ use Rattle.coll_lex.proofs.RunLemmas.{graphic_chars}
 use Rattle.coll_lex.specs.declared.tokens.Chars.{Chars}
 use Rattle.coll_lex.specs.declared.tokens.Piece.{Piece}
 use Rattle.coll_lex.specs.declared.tokens.Token.TheVariants as token
-use Rattle.coll_syntax.specs.PlainWeights.{IsInside, IsOperand}
+use Rattle.coll_syntax.specs.PlainWeights.{IsInside, IsOperand, operand_by}
 use Rattle.coll_syntax.specs.Weights.{piece_id, string_weight}
 use Rattle.coll_syntax.specs.declared.identifiers.Id.{Id}
 use Rattle.coll_syntax.specs.declared.weights.Weight.{Weight}
@@ -58,11 +58,16 @@ module _ (special : Chars) where
         weighed h.0 more fits ∙ ap (λ (xs : List Id). Ok (Names xs)) h.2,
       )
 
-  pub string_operand : (own : ℕ) (text inside rest : List ℕ) (w : Weight) → BeginsString special text inside → IsInside special inside w rest → IsOperand own special text w rest
+  text_by : (own : Option ℕ) (pieces : List Piece) (w : Weight) → string_weight pieces ≡ Ok w → operand_by own (token.Text pieces ∷ []) ≡ Ok w
+  text_by (Some own) pieces w e = e
+  text_by None pieces w e = e
+
+  pub string_operand : (own : Option ℕ) (text inside rest : List ℕ) (w : Weight) → BeginsString special text inside → IsInside special inside w rest → IsOperand own special text w rest
   string_operand own text inside rest w b h =
       let begun = b.shorter in
       let ended = h.1.shorter in
-      (token.Text h.0, record { reads = b.reads ∙ h.1.reads; ends = b.ends ∙ h.1.ends; shorter = omega (arith, begun, ended) }, h.2)
+      (token.Text h.0, record { reads = b.reads ∙ h.1.reads; ends = b.ends ∙ h.1.ends; shorter = omega (arith, begun, ended) }, text_by own h.0 w h.2)
 
-  pub ignored_operand : (own : ℕ) (text rest : List ℕ) → IsNext special text (token.Word (chars (codes "IGNORE"))) rest → IsOperand own special text Ignore rest
-  ignored_operand own text rest n = (token.Word (chars (codes "IGNORE")), n, rw (graphic_chars (codes "IGNORE") refl) refl)
+  pub ignored_operand : (own : Option ℕ) (text rest : List ℕ) → IsNext special text (token.Word (chars (codes "IGNORE"))) rest → IsOperand own special text Ignore rest
+  ignored_operand (Some own) text rest n = (token.Word (chars (codes "IGNORE")), n, rw (graphic_chars (codes "IGNORE") refl) refl)
+  ignored_operand None text rest n = (token.Word (chars (codes "IGNORE")), n, rw (graphic_chars (codes "IGNORE") refl) refl)

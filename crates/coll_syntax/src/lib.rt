@@ -3,8 +3,8 @@
 //! A line comes from the lexer as its tokens, and leaves as plain data: `parse_table_line` and `parse_delta_line` read
 //! it from left to right, and the first token that doesn't fit gives the fault. The types come first (`identifiers`,
 //! `weights`, `rules`, `statements`, `lines`), then the reading of tokens (`keywords`, `operands`, `elements`,
-//! `weight_lists`, `rule_lists`, `order_lines`) and of whole lines (`table_lines`, `delta_lines`; `plain_lines` with `plain_weights`, which asks
-//! the lexer for one token after another where a line can be read so); `syntax_faults` has the faults. What a line says is
+//! `weight_lists`, `rule_lists`, `order_lines`) and of whole lines (`table_lines`, `delta_lines`; `plain_lines` and `plain_deltas` with
+//! `plain_weights`, which ask the lexer for one token after another where a line can be read so); `syntax_faults` has the faults. What a line says is
 //! defined in `specs/`: `identifiers` in `Identifier`, `weight_lists` in `Weights`, `rule_lists` in `Rules`, what is proper in
 //! `Proper`, and the others in the file of their name. A new kind of line is a variant of
 //! `TableLine` or `DeltaLine`, its keyword, its case in `specs/TableLines.antt` or `specs/DeltaLines.antt`, and its arm in
@@ -18,6 +18,7 @@ mod keywords;
 mod lines;
 mod operands;
 mod order_lines;
+mod plain_deltas;
 mod plain_lines;
 mod plain_weights;
 mod rule_lists;
@@ -34,6 +35,7 @@ pub use identifiers::Id;
 pub use keywords::is_word;
 pub use lines::{DeltaLine, TableLine};
 pub use operands::{copied_name, ended, id_of};
+pub use plain_deltas::parse_plain_delta;
 pub use plain_lines::parse_plain_line;
 pub use rules::{MOST_LEVELS, Rule, Rules};
 pub use statements::{MOST_BLOCK_LINES, OrderLine, Statement};

@@ -53,7 +53,7 @@ fn plain_order(alloc: Global, lexer: &Lexer, text: &str) -> Result<Option<TableL
             None => Ok(None),
         },
         PlainToken::Char(own) => {
-            match plain_weights(alloc, lexer, own, lexer.past_blank(behind))? {
+            match plain_weights(alloc, lexer, Some(own), lexer.past_blank(behind))? {
                 Some(weights) => Ok(Some(order_of(Id::Char(own), Some(weights)))),
                 None => Ok(None),
             }

@@ -1,13 +1,12 @@
-//! Weights of a character that are read token by token where they stand.
+//! Weights of an order line that are read token by token where they stand.
 //!
 //! A weight is mostly one name or the character itself, and for a few lines a string of names; each is read from the text, and only what
-//! is kept of it is made. What an operand means is that of `weight_lists`.
+//! is kept of it is made. What an operand means is that of `weight_lists`; of a table's line of a character that of `kept_weights`.
 
 ghost use Rattle.std.specs.Prelude.{◌≡◌, ◌<◌, [], ◌∷◌, length, chars, Ok, IfOk, IfSome};
 ghost use Rattle.coll_lex.specs.PlainStrings.{piece_in};
 ghost use Rattle.coll_lex.specs.PlainTexts.{IsReadWhole, plain_reading, token_in};
-ghost use Rattle.coll_syntax.specs.KeptLines.{kept_operand, kept_weights};
-ghost use Rattle.coll_syntax.specs.PlainWeights.{IsInside, PutsOperand};
+ghost use Rattle.coll_syntax.specs.PlainWeights.{IsInside, PutsOperand, is_own_char, operand_by, weights_by};
 ghost use Rattle.coll_syntax.specs.Weights.{piece_id};
 
 use crate::weight_lists::one_id;
@@ -16,15 +15,15 @@ use crate::{Id, Weight};
 use coll_lex::{Lexer, ListBuf, PlainPiece, PlainToken, TextBuf};
 use std::alloc::{AllocError, Global};
 
-/// The weights of a character, which a text spells. None where a token of it has to be read otherwise.
+/// The weights that a text spells, kept as those of this character, if one is given. None where a token of it has to be read otherwise.
 pub(crate) fn plain_weights(
     alloc: Global,
     lexer: &Lexer,
-    own: char,
+    own: Option<char>,
     text: &str,
 ) -> Result<Option<ListBuf<Weight>>, AllocError>
     ensures read { IfOk result (λ read. IfSome read (λ weights.
-        kept_weights own (plain_reading lexer.now.special text.now).tokens ≡ Ok weights)) }
+        weights_by own (plain_reading lexer.now.special text.now).tokens ≡ Ok weights)) }
     ensures some { IfOk result (λ read. IfSome read (λ weights. 0 < length (plain_reading lexer.now.special text.now).tokens)) }
     ensures whole { IfOk result (λ read. IfSome read (λ weights. IsReadWhole lexer.now.special text.now)) }
 {
@@ -50,7 +49,7 @@ pub(crate) fn plain_weights(
 fn put_weight<'a>(
     alloc: Global,
     lexer: &Lexer,
-    own: char,
+    own: Option<char>,
     text: &'a str,
     weights: &mut Vec<Weight>,
 ) -> Result<Option<&'a str>, AllocError>
@@ -121,13 +120,14 @@ fn plain_id(alloc: Global, piece: PlainPiece<'_>) -> Result<Id, AllocError>
     }
 }
 
-// The weight of an operand that is this token alone, on the line of a character. None where it is none, or a word.
+// The weight of an operand that is this token alone, kept as on the line of this character, if one is given. None where it is none, or a
+// word.
 fn plain_operand(
     alloc: Global,
-    own: char,
+    own: Option<char>,
     token: PlainToken<'_>,
 ) -> Result<Option<Weight>, AllocError>
-    ensures { IfOk result (λ read. IfSome read (λ weight. kept_operand own (token_in token.entry ∷ []) ≡ Ok weight)) }
+    ensures { IfOk result (λ read. IfSome read (λ weight. operand_by own (token_in token.entry ∷ []) ≡ Ok weight)) }
 {
     match token {
         PlainToken::Symbol(name) => {
@@ -136,12 +136,22 @@ fn plain_operand(
             Ok(Some(weight))
         }
         PlainToken::Char(c) => {
-            if c == own {
+            if is_own_char(own, c) {
                 return Ok(Some(Weight::Own));
             }
             let weight = one_id(alloc, Id::Char(c))?;
             Ok(Some(weight))
         }
         PlainToken::Word(_) | PlainToken::Semicolon => Ok(None),
+    }
+}
+
+// Whether a character is the one of the line, if that is given.
+fn is_own_char(own: Option<char>, c: char) -> bool
+    ensures { result ≡ is_own_char own c }
+{
+    match own {
+        Some(own) => c == own,
+        None => false,
     }
 }

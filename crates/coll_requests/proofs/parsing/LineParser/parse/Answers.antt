@@ -1,45 +1,28 @@
--- What is parsed is the lexer's answer, or a line for which memory was refused.
-use Rattle.std.proofs.Common.{Bool, Some, None, sym, ap, ◌∙◌, subst}
+-- A line that is read where it stands is parsed as its tokens are.
+use Rattle.std.proofs.Common.{sym, ap, ◌∙◌}
 use Rattle.coll_lex.specs.LogicalLines.{LexerState, first_line}
 use Rattle.coll_requests.specs.SessionLines.{opening_of}
-use Rattle.coll_requests.specs.Parsing.{Parses}
-use Rattle.coll_requests.proofs.ParsingLemmas.{numbered, opens_as_none, opens_as_next, parses_fault, parses_none, parses_whole}
-use Rattle.coll_lex.proofs.LineEnds.{fed-whole}
+use Rattle.coll_requests.proofs.PlainLines.{plain_parses, plain_proper, plain_starves}
 use Rattle.coll_requests.proofs.parsing.LineParser.parse.Goals as goal
 
-pub invariant_of-self-in-Ok-None : goal.invariant_of-self-in-Ok-None
-invariant_of-self-in-Ok-None c =
-    let s = c.self.inside.lexer in
-    opens_as_next s c.feed.new.self c.args.line.now c.in-Ok-None.field-0 c.opening_at-opening.result c.in-Ok-None.ensures.ok
-    (c.opening_at-opening.ensures ∙ ap (λ (t : LexerState). opening_of (first_line t c.args.line.now)) (sym c.self.view_is))
-
-pub invariant_of-self-in-Ok-Some : goal.invariant_of-self-in-Ok-Some
-invariant_of-self-in-Ok-Some c =
-    opens_as_none c.feed.new.self c.self.inside.opening
-    (ap (λ (t : LexerState). t.line) (fed-whole c.self.inside.lexer c.args.line.now c.in-Ok-Some.line c.feed.new.self (rw c.in-Ok-Some.field-0-is at c.in-Ok-Some.ensures.ok)))
-
-pub invariant_of-self : goal.invariant_of-self
-invariant_of-self c = opens_as_none c.feed.new.self c.self.inside.opening (ap (λ (t : LexerState). t.line) c.in-Err.ensures.dropped)
-
-pub returns-in-Err-clause-parsed : goal.returns-in-Err-clause-parsed
-returns-in-Err-clause-parsed c =
-    subst (λ (s : LexerState). (starved : Bool) × Parses c.args.commands starved s c.feed.new.self c.args.line.now (Some (numbered c.next_number-number.result c.refused_by_lexer-parsed.result)))
-    c.self.view_is
-    (parses_fault c.args.commands c.self.inside.lexer c.feed.new.self c.args.line.now c.opening_at-opening.result c.in-Err.fault (numbered c.next_number-number.result c.refused_by_lexer-parsed.result)
-    c.next_number-number.result
-    (c.opening_at-opening.ensures ∙ ap (λ (t : LexerState). opening_of (first_line t c.args.line.now)) (sym c.self.view_is)) c.next_number-number.ensures.number c.in-Err.ensures.dropped
-    c.in-Err.ensures.err c.in-Err.ensures.memory
-    (ap (numbered c.next_number-number.result) c.refused_by_lexer-parsed.ensures.parsed))
-
-pub returns-in-Ok-None-clause-parsed : goal.returns-in-Ok-None-clause-parsed
-returns-in-Ok-None-clause-parsed c =
-    subst (λ (s : LexerState). (starved : Bool) × Parses c.args.commands starved s c.feed.new.self c.args.line.now None) c.self.view_is
-    (parses_none c.args.commands c.self.inside.lexer c.feed.new.self c.args.line.now (rw c.in-Ok-None.field-0-is at c.in-Ok-None.ensures.ok))
+pub accepted-requires : goal.accepted-requires
+accepted-requires c =
+    let said = rw c.in-Ok-Some.field-0-is at c.in-Ok-Some.ensures.read in
+    let whole = rw c.in-Ok-Some.field-0-is at c.in-Ok-Some.ensures.whole in
+    plain_proper c.self.inside.lexer c.args.line.now c.in-Some.text.now c.in-Ok-Some.read c.in-Some.ensures.plain c.in-Some.ensures.alone whole said
 
 pub returns-in-Ok-Some-clause-parsed : goal.returns-in-Ok-Some-clause-parsed
 returns-in-Ok-Some-clause-parsed c =
-    subst (λ (s : LexerState). (starved : Bool) × Parses c.args.commands starved s c.feed.new.self c.args.line.now (Some (numbered c.next_number-number.result c.tokens_parsed-parsed.result)))
-    c.self.view_is
-    (parses_whole c.args.commands c.self.inside.lexer c.feed.new.self c.args.line.now c.opening_at-opening.result c.in-Ok-Some.line c.tokens_parsed-parsed.result c.next_number-number.result
-    (c.opening_at-opening.ensures ∙ ap (λ (t : LexerState). opening_of (first_line t c.args.line.now)) (sym c.self.view_is)) c.next_number-number.ensures.number
-    (rw c.in-Ok-Some.field-0-is at c.in-Ok-Some.ensures.ok) c.tokens_parsed-parsed.ensures.parsed)
+    let said = rw c.in-Ok-Some.field-0-is at c.in-Ok-Some.ensures.read in
+    let whole = rw c.in-Ok-Some.field-0-is at c.in-Ok-Some.ensures.whole in
+    let begins = c.opening_at-opening.ensures ∙ ap (λ (t : LexerState). opening_of (first_line t c.args.line.now)) (sym c.self.view_is) in
+    rw (c.passed.ensures.line, c.passed.ensures.passes, ← c.self.view_is)
+    (plain_parses c.args.commands c.self.inside.lexer c.args.line.now c.in-Some.text.now c.in-Ok-Some.read c.opening_at-opening.result c.accepted.result c.in-Some.ensures.plain c.in-Some.ensures.alone
+    whole said begins (c.accepted.ensures.parsed c.opening_at-opening.result))
+
+pub returns-in-Err-clause-parsed : goal.returns-in-Err-clause-parsed
+returns-in-Err-clause-parsed c =
+    let begins = c.opening_at-opening.ensures ∙ ap (λ (t : LexerState). opening_of (first_line t c.args.line.now)) (sym c.self.view_is) in
+    rw (c.passed-in-Err.ensures.line, c.passed-in-Err.ensures.passes, ← c.self.view_is)
+    (plain_starves c.args.commands c.self.inside.lexer c.args.line.now c.in-Some.text.now c.opening_at-opening.result c.no_memory.result c.in-Some.ensures.plain c.in-Err.ensures.memory begins
+    c.no_memory.ensures)
