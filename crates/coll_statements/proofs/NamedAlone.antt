@@ -8,7 +8,7 @@ use Rattle.coll_nodes.specs.Entries.{names_only, weight_ids}
 use Rattle.coll_lookups.proofs.Sameness.{same_id_decides}
 
 -- a weight that names an identifier alone names just that
-only_named : (id : Id) (weight : Weight) → names_only id weight ≡ true → id ∷ [] ≡ weight_ids weight
+pub only_named : (id : Id) (weight : Weight) → names_only id weight ≡ true → id ∷ [] ≡ weight_ids weight
 only_named id Ignore e = absurd (false≢true e)
 only_named id Own e = absurd (false≢true e)
 only_named id (Names []) e = absurd (false≢true e)

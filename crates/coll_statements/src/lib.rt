@@ -12,6 +12,6 @@ mod line_weights;
 mod own_names;
 mod own_statements;
 
-pub use line_weights::{given_len, kept_weights, name_the_same};
+pub use line_weights::{copied_weights, given_len, kept_weights, name_the_same, names_only};
 pub use own_names::{names_second, own_weights, second_names_are_not_placed};
 pub use own_statements::by_own_names;

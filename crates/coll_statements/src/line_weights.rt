@@ -1,8 +1,9 @@
 //! The weights that an entry keeps of those that its order line gives.
 //!
-//! The list of a line is taken over and not copied: a weight that names only the entry becomes its own, and its own is put behind
-//! at each level that the line leaves out (`kept_weights` of `specs/Entries.antt` of coll_nodes). A new rule on what an entry
-//! keeps is a case of `kept_weight` there, and of `keep` here.
+//! The list of a line of a table is taken over and not copied; that of a statement, which stays, is copied. A weight that names only the
+//! entry becomes its own, without a copy of its list, and its own is put behind at each level that the line leaves out (`kept_weights`
+//! of `specs/Entries.antt` of coll_nodes). A new rule on what an entry keeps is a case of `kept_weight` there, and of `keep` and
+//! `copied_weight` here.
 
 ghost use Rattle.std.specs.Prelude.{◌≡◌, ◌++◌, ◌-◌, true, length, map, replicate, IfOk, OnOk};
 ghost use Rattle.coll_syntax.specs.declared.weights.Weight.TheVariants.{Own};
@@ -37,6 +38,33 @@ pub fn kept_weights(
     Ok(ListBuf::new(weights))
 }
 
+/// The weights that an entry keeps of these, which its line gives, in new memory, with its own at each level behind them.
+pub fn copied_weights(
+    alloc: Global,
+    levels: usize,
+    id: &Id,
+    given: &[Weight],
+) -> Result<ListBuf<Weight>, AllocError>
+    ensures { IfOk result (λ weights. weights ≡ kept_weights levels id.now given.now) }
+{
+    let mut weights = Vec::with_capacity(alloc, given.len().max(levels))?;
+    for weight in given {
+        weights.push(copied_weight(id, weight)?)?;
+    }
+    fill_up(&mut weights, levels)?;
+    Ok(ListBuf::new(weights))
+}
+
+// A copy of a weight, or the entry's own where that is a list that names only this identifier.
+fn copied_weight(id: &Id, weight: &Weight) -> Result<Weight, AllocError>
+    ensures { IfOk result (λ copy. copy ≡ kept_weight id.now weight.now) }
+{
+    if names_only(id, weight) {
+        return Ok(Weight::Own);
+    }
+    weight.clone()
+}
+
 // The weights that a line gives, as a list that may grow.
 fn given_list(alloc: Global, given: Option<ListBuf<Weight>>) -> Vec<Weight>
     ensures { result.items ≡ given_weights given }
@@ -61,13 +89,13 @@ fn keep_each(id: &Id, weights: &mut [Weight])
 fn keep(id: &Id, weight: &mut Weight)
     ensures { weight.new ≡ kept_weight id.now weight.old }
 {
-    if is_only(id, weight) {
+    if names_only(id, weight) {
         *weight = Weight::Own;
     }
 }
 
-// Whether a weight is a list that names only this identifier.
-fn is_only(id: &Id, weight: &Weight) -> bool
+/// Whether a weight is a list that names only this identifier.
+pub fn names_only(id: &Id, weight: &Weight) -> bool
     ensures { result ≡ names_only id.now weight.now }
 {
     let Weight::Names(ids) = weight else {
@@ -87,7 +115,7 @@ pub fn name_the_same(weight: &Weight, other: &Weight) -> bool
         return false;
     };
     match ids.get() {
-        [only] => is_only(only, other),
+        [only] => names_only(only, other),
         _ => false,
     }
 }

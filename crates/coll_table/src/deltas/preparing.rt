@@ -20,7 +20,7 @@ use crate::{Item, Record, Table};
 use coll_lex::{ListBuf, TextBuf};
 use coll_nodes::{Content, Declaration, Entry};
 use coll_order::{NodeId, Place};
-use coll_statements::kept_weights;
+use coll_statements::{copied_weights, kept_weights};
 use coll_syntax::{Id, OrderLine, Weight};
 use std::alloc::AllocError;
 
@@ -196,8 +196,7 @@ impl Table {
         let Some(given) = &line.weights else {
             return Ok(None);
         };
-        let given = given.clone()?;
-        let kept = kept_weights(self.alloc(), self.rules().len(), &line.id, Some(given))?;
+        let kept = copied_weights(self.alloc(), self.rules().len(), &line.id, given.get())?;
         Ok(Some(kept))
     }
 
