@@ -3,7 +3,7 @@
 //! A `Names` is the list of its names in the order in which they came, each once. How a name is found may change.
 //! `IdSet` keeps its names in it; names that lead to a node are kept by `node_names`.
 
-ghost use Rattle.std.specs.Prelude.{◌≡◌, [], OnOk, OnErr, chars};
+ghost use Rattle.std.specs.Prelude.{◌≡◌, [], not, IfOk, OnOk, OnErr, chars};
 ghost use Rattle.coll_syntax.specs.Identifier.{has_name};
 
 use crate::{HashKeys, WordKeys};
@@ -55,8 +55,18 @@ impl Names {
         ensures ok { OnOk result (self.new ≡ with_name self.old (chars name.now)) }
         ensures err { OnErr result (self.new ≡ self.old) }
     {
-        let text = String::from_str(self.alloc, name)?;
-        self.names.insert(text)?;
+        self.put_free(name)?;
         Ok(())
+    }
+
+    /// Puts a name at the end, and answers whether it wasn't there. One that is there stays where it is.
+    pub fn put_free(&mut self, name: &str) -> Result<bool, AllocError>
+        ensures free { IfOk result (λ free. free ≡ not (has_name self.old (chars name.now))) }
+        ensures ok { OnOk result (self.new ≡ with_name self.old (chars name.now)) }
+        ensures err { OnErr result (self.new ≡ self.old) }
+    {
+        let text = String::from_str(self.alloc, name)?;
+        let free = self.names.insert(text)?;
+        Ok(free)
     }
 }

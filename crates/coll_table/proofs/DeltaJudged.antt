@@ -1,6 +1,7 @@
 -- What judging a statement says of its delta.
 use Rattle.std.proofs.Common.{◌≡◌, ◌≢◌, ℕ, ◌+◌, ◌-◌, ◌<◌, ◌≤◌, true, false, ◌||◌, not, cond, List, [], ◌∷◌, Option, Some, None}
 use Rattle.std.proofs.Common.{Result, Ok, Err, IsOk, IfErr, OnOk, length, sym, ap, ap₂, ◌∙◌, refl, arith, append-nil}
+use Rattle.std.specs.Prelude.{is_none}
 use Rattle.std.specs.List.{flat_map}
 use Rattle.std.specs.Option.{option_or}
 use Rattle.std.proofs.lemmas.Bool.{lt-leb, le-leb, or_right}
@@ -13,15 +14,18 @@ use Rattle.coll_table.proofs.DeltaPlacing.{has_all_moved, length_all_moved, all_
 use Rattle.coll_table.proofs.DeltaTables.{may_follow, reweighted_ids}
 use Rattle.coll_lookups.proofs.Sameness.{found_holds, same_id_decides}
 use Rattle.coll_table.specs.Delta.{unless_refused, or_refused, weight_ids_refusal, ids_given, looked_up, lines_refusal}
-use Rattle.coll_table.specs.Delta.{all_moved, block_result, block_delta, reweighted, reweight_refusal, reweight_delta}
+use Rattle.coll_table.specs.Delta.{all_moved, block_result, block_delta, reweighted, reweight_refusal, reweight_delta, weights_refusal}
 use Rattle.coll_nodes.specs.Causes.{refused_if}
-use Rattle.coll_nodes.specs.Entries.{given_weights, weight_ids}
+use Rattle.coll_nodes.specs.Entries.{given_weights, names_only, weight_ids}
+use Rattle.coll_statements.proofs.NamedAlone.{only_named}
+use Rattle.coll_syntax.specs.declared.weights.Weight.{Weight}
+use Rattle.coll_texts.proofs.SoundLines.{passed, not_false}
 use Rattle.coll_table.specs.Judging.{HaveSame, entries_added, line_ids, id_refusal, ids_refusal}
 use Rattle.coll_nodes.specs.Limits.{most_entries}
 use Rattle.coll_nodes.specs.Table.{Collation, entries_of, ids_of, is_known, is_placed}
 use Rattle.coll_nodes.specs.WellFormed.{IsKnown, IsWellFormed}
 use Rattle.coll_table.specs.declared.refusals.Refusal.{Refusal}
-use Rattle.coll_table.specs.declared.refusals.Refusal.TheVariants.{NotDeclared, WeightNotPlaced, Full, TargetNotPlaced, OutOfMemory}
+use Rattle.coll_table.specs.declared.refusals.Refusal.TheVariants.{NotDeclared, NotPlaced, NoWeights, WeightNotPlaced, Full, TargetNotPlaced, OutOfMemory}
 
 -- where a result is a table unless it is refused, and that is judged, the result is judged
 pub judged_ok : {U : Type 0} (r : Result U Refusal) (result : Result Collation Refusal) (refusal : Option Refusal) (after : Collation) → result ≡ unless_refused refusal after → OnOk r (refusal ≡ None)
@@ -45,6 +49,18 @@ placed_unrefused table more id well here =
     let known : is_known table.declared id ≡ true = found_holds same_id same_id_decides (IsKnown table.declared) (ids_of (entries_of table)) id well.built.known here in
     ap (λ b. refused_if (not b) NotDeclared (refused_if (not (is_placed table id || has_id more id)) WeightNotPlaced None)) known
     ∙ ap (λ b. refused_if (not (b || has_id more id)) WeightNotPlaced None) here
+
+-- so nothing refuses the entry whose weights are replaced
+pub reweighed_own : (table : Collation) (line : OrderLine) → IsWellFormed table → reweight_refusal table line ≡ None → id_refusal table [] line.id ≡ None
+reweighed_own table line well e =
+    let later = refused_if (is_none line.weights) NoWeights (weights_refusal table line None) in
+    let known = passed (not (is_known table.declared line.id)) NotDeclared (refused_if (not (is_placed table line.id)) NotPlaced later) e in
+    placed_unrefused table [] line.id well (not_false (is_placed table line.id) (passed (not (is_placed table line.id)) NotPlaced later known.1).0)
+
+-- neither a weight that names an identifier alone which nothing refuses
+pub own_unrefused : (table : Collation) (more : List Id) (own : Id) (weight : Weight) → id_refusal table more own ≡ None → names_only own weight ≡ true → ids_refusal table more (weight_ids weight) ≡ None
+own_unrefused table more own weight none only =
+    ap (ids_refusal table more) (sym (only_named own weight only)) ∙ ap (λ r. option_or r None) none
 
 -- what results has the declarations of a table, and these identifiers are placed there beside the table's
 pub record Results (table : Collation) (more : List Id) (after : Collation) : Type 0 where

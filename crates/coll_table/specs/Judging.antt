@@ -1,6 +1,6 @@
 -- What is counted and looked up of a block while it is judged, before any of its lines is placed, and what memory that takes (the
 -- project's own).
-use Rattle.std.specs.Prelude.{◌≡◌, ℕ, Bool, false, ◌||◌, not, List, [], ◌∷◌, Option, None, map, filter, length}
+use Rattle.std.specs.Prelude.{◌≡◌, ℕ, Bool, false, ◌||◌, not, List, [], ◌∷◌, Option, None, All, map, filter, length}
 use Rattle.std.specs.Option.{option_or}
 use Rattle.coll_syntax.specs.Identifier.{has_id}
 use Rattle.coll_syntax.specs.declared.identifiers.Id.{Id}
@@ -36,6 +36,10 @@ id_refusal table more id =
 abbrev pub ids_refusal : Collation → (more : List Id) → List Id → Option Refusal
 ids_refusal table more [] = None
 ids_refusal table more (id ∷ ids) = option_or (id_refusal table more id) (ids_refusal table more ids)
+
+-- the identifier of each of these lines may stand in a weight, where these are placed, too
+abbrev pub MayNameOwn : Collation → (more : List Id) → List OrderLine → Type 0
+MayNameOwn table more lines = All (λ (line : OrderLine). id_refusal table more line.id ≡ None) lines
 
 -- memory may be taken to judge a statement of own names: that of a block whose target is placed, for the identifiers of its
 -- lines, and no other

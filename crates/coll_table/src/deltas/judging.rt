@@ -7,27 +7,27 @@
 //! placed, and for no other: what may lack it gives an `AllocError` beside the refusal, and `check` joins the two. A new statement,
 //! or a new refusal of one, is a case of `own_delta` first.
 
-ghost use Rattle.std.specs.Prelude.{◌≡◌, ◌≢◌, ◌∷◌, [], true, IsOk, Err, Some, None, IfOk, IfErr, OnOk, OnErr, length, nat_le};
+ghost use Rattle.std.specs.Prelude.{◌≡◌, ◌≢◌, ◌∷◌, [], true, IsOk, Err, Some, None, IfOk, IfErr, OnOk, OnErr, length, nat_le, not, ◌-◌};
 ghost use Rattle.std.specs.List.{flat_map};
 ghost use Rattle.coll_syntax.specs.Proper.{IsProper};
 ghost use Rattle.coll_table.specs.Delta.{all_moved, block_delta, declaration_refusal, delta, ids_given};
-ghost use Rattle.coll_table.specs.Delta.{line_refusal, lines_refusal, own_delta, reweight_delta, reweight_refusal};
+ghost use Rattle.coll_table.specs.Delta.{lines_refusal, own_delta, reweight_delta, reweight_refusal};
 ghost use Rattle.coll_table.specs.Delta.{reweighted, section_refusal, unless_refused, weights_refusal};
 ghost use Rattle.coll_nodes.specs.Causes.{refused_if};
 ghost use Rattle.coll_nodes.specs.Entries.{given_weights, weight_ids};
-ghost use Rattle.coll_table.specs.Judging.{entries_added, HaveSame, id_refusal, ids_refusal};
+ghost use Rattle.coll_table.specs.Judging.{entries_added, HaveSame, MayNameOwn, id_refusal, ids_refusal};
 ghost use Rattle.coll_table.specs.Judging.{judging_takes_memory, line_ids, own_judging_takes_memory};
-ghost use Rattle.coll_nodes.specs.Limits.{most_declarations};
-ghost use Rattle.coll_nodes.specs.Table.{is_placed};
+ghost use Rattle.coll_nodes.specs.Limits.{most_declarations, most_entries};
+ghost use Rattle.coll_nodes.specs.Table.{entries_of, is_known, is_placed};
 ghost use Rattle.coll_nodes.specs.TableLayout.{collation};
 ghost use Rattle.coll_nodes.specs.declared.declarations.Declaration.TheVariants as declaration;
-ghost use Rattle.coll_table.specs.declared.refusals.Refusal.TheVariants.{Full, OutOfMemory};
+ghost use Rattle.coll_table.specs.declared.refusals.Refusal.TheVariants.{Full, NotDeclared, OutOfMemory};
 
 use crate::{Refusal, Table};
 use coll_lex::TextBuf;
 use coll_lookups::IdSet;
 use coll_nodes::{MOST_DECLARATIONS, MOST_ENTRIES};
-use coll_statements::given_len;
+use coll_statements::{given_len, names_only};
 use coll_syntax::{Id, OrderLine, Statement, Weight};
 use std::alloc::AllocError;
 
@@ -154,6 +154,7 @@ impl Table {
             return Some(refusal);
         }
         let none = IdSet::new(self.alloc(), self.hash_keys());
+        self.lemma_well_formed();
         let refusal = self.given_refusal(&none, line);
         drop(none);
         refusal
@@ -219,13 +220,26 @@ impl Table {
             return Ok(Some(refusal));
         }
         self.lemma_well_formed();
-        if self.added_len(lines) > MOST_ENTRIES - self.len() {
+        if !self.has_room(lines) {
             return Ok(Some(Refusal::Full));
         }
         Ok(self.all_given_refusal(ids, lines))
     }
 
-    // Why the first line of a block that is refused is, the identifiers in the weights aside. Each is put in once it is judged:
+    // Whether there is room for the entries that these lines add: certainly where there is some for all lines, and none is looked up.
+    fn has_room(&self, lines: &[OrderLine]) -> bool
+        ensures { result ≡ nat_le (entries_added (collation self.now) lines.now)
+            (most_entries - length (entries_of (collation self.now))) }
+    {
+        self.lemma_well_formed();
+        let room = MOST_ENTRIES - self.len();
+        if lines.len() <= room {
+            return true;
+        }
+        self.added_len(lines) <= room
+    }
+
+    // Why the first line of a block that is refused is, the identifiers in the weights aside. Each is put in where it is looked up:
     // there alone memory is taken.
     fn lines_refusal(
         &self,
@@ -239,21 +253,21 @@ impl Table {
     {
         ids.insert(target)?;
         for line in lines {
-            if let Some(refusal) = self.line_refusal(ids, line) {
+            if !ids.put_free(&line.id)? {
+                return Ok(Some(Refusal::TwiceInBlock));
+            }
+            if let Some(refusal) = self.new_line_refusal(line) {
                 return Ok(Some(refusal));
             }
-            ids.insert(&line.id)?;
         }
         Ok(None)
     }
 
-    // Why a line of a block is refused, if it is, from the identifiers of the target and of the lines before it.
-    fn line_refusal(&self, before: &IdSet, line: &OrderLine) -> Option<Refusal>
-        ensures { result ≡ line_refusal (collation self.now) before.now line.now }
+    // Why a line of a block is refused, if it is, whose identifier stands in no line before it.
+    fn new_line_refusal(&self, line: &OrderLine) -> Option<Refusal>
+        ensures { result ≡ refused_if (not (is_known (collation self.now).declared line.now.id)) NotDeclared
+            (weights_refusal (collation self.now) line.now None) }
     {
-        if before.contains(&line.id) {
-            return Some(Refusal::TwiceInBlock);
-        }
         if !self.is_known(&line.id) {
             return Some(Refusal::NotDeclared);
         }
@@ -275,6 +289,7 @@ impl Table {
 
     // Why the first identifier that may not stand in the weights of these lines may not, where more is placed.
     fn all_given_refusal(&self, more: &IdSet, lines: &[OrderLine]) -> Option<Refusal>
+        requires { MayNameOwn (collation self.now) more.now lines.now }
         ensures { result ≡ ids_refusal (collation self.now) more.now (ids_given lines.now) }
     {
         for line in lines {
@@ -285,32 +300,38 @@ impl Table {
         None
     }
 
-    // The same of one line.
+    // The same of one line, whose own identifier may stand in a weight.
     fn given_refusal(&self, more: &IdSet, line: &OrderLine) -> Option<Refusal>
+        requires { id_refusal (collation self.now) more.now line.now.id ≡ None }
         ensures { result ≡ ids_refusal (collation self.now) more.now (flat_map weight_ids (given_weights line.now.weights)) }
     {
         match &line.weights {
-            Some(weights) => self.named_refusal(more, weights.get()),
+            Some(weights) => self.named_refusal(more, &line.id, weights.get()),
             None => None,
         }
     }
 
-    // The same of weights.
-    fn named_refusal(&self, more: &IdSet, weights: &[Weight]) -> Option<Refusal>
+    // The same of weights, in which this identifier may stand.
+    fn named_refusal(&self, more: &IdSet, own: &Id, weights: &[Weight]) -> Option<Refusal>
+        requires { id_refusal (collation self.now) more.now own.now ≡ None }
         ensures { result ≡ ids_refusal (collation self.now) more.now (flat_map weight_ids weights.now) }
     {
         for weight in weights {
-            if let Some(refusal) = self.weight_refusal(more, weight) {
+            if let Some(refusal) = self.weight_refusal(more, own, weight) {
                 return Some(refusal);
             }
         }
         None
     }
 
-    // The same of one weight.
-    fn weight_refusal(&self, more: &IdSet, weight: &Weight) -> Option<Refusal>
+    // The same of one weight: nothing is looked up for one that names only this identifier.
+    fn weight_refusal(&self, more: &IdSet, own: &Id, weight: &Weight) -> Option<Refusal>
+        requires { id_refusal (collation self.now) more.now own.now ≡ None }
         ensures { result ≡ ids_refusal (collation self.now) more.now (weight_ids weight.now) }
     {
+        if names_only(own, weight) {
+            return None;
+        }
         match weight {
             Weight::Names(ids) => self.ids_refusal(more, ids.get()),
             _ => None,
