@@ -64,6 +64,17 @@ impl NodeIds {
         self.names.find(name)
     }
 
+    /// The node that an identifier leads to, as `find` tells it. A name is looked for at a guess first, which is then the place behind
+    /// it, by `NodeNames::find_behind`. It takes no memory.
+    pub fn find_behind(&self, id: &Id, guess: &mut usize) -> Option<NodeId>
+        ensures { result ≡ node_with self.now id.now }
+    {
+        match id {
+            Id::Named(name) => self.names.find_behind(name.get(), guess),
+            _ => self.find(id),
+        }
+    }
+
     /// Makes an identifier a key, so that it can be `set`. It leads to where it led. Where memory is refused, nothing has changed.
     pub fn reserve(&mut self, id: &Id) -> Result<(), AllocError>
         ensures ok { OnOk result (LeadAlike self.old self.new) }

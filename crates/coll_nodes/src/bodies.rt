@@ -193,6 +193,14 @@ impl Body {
         self.keys.placed.find(id).is_some()
     }
 
+    /// Whether an identifier stands in a section, as `is_placed` tells it. A name is looked for at a guess first, which is then the
+    /// name placed behind it: who asks for names in the order in which they were placed mostly finds them so.
+    pub fn is_placed_behind(&self, id: &Id, guess: &mut usize) -> bool
+        ensures { result ≡ is_placed_in (sections_at self.now.layout) id.now }
+    {
+        self.keys.placed.find_behind(id, guess).is_some()
+    }
+
     /// Whether an identifier may stand in a section: a name has to be declared as an own name.
     pub fn is_known(&self, id: &Id) -> bool
         ensures { result ≡ is_known (declared_at self.now.layout) id.now }

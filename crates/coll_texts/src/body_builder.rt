@@ -100,6 +100,13 @@ impl BodyBuilder {
         self.body.is_placed(id)
     }
 
+    /// Whether an identifier stands in a section. A name is looked for at a guess first, which is then the name placed behind it.
+    pub(crate) fn is_placed_behind(&self, id: &Id, guess: &mut usize) -> bool
+        ensures { result ≡ is_placed_in self.now.sections id.now }
+    {
+        self.body.is_placed_behind(id, guess)
+    }
+
     /// Whether an identifier may stand in a section: a name has to be declared as an own name.
     pub(crate) fn is_known(&self, id: &Id) -> bool
         ensures { result ≡ is_known self.now.declared id.now }

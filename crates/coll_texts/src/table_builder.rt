@@ -39,6 +39,9 @@ use coll_syntax::{Id, OrderLine, Rule, Rules, TableLine, Weight};
 use std::alloc::{AllocError, Global};
 use std::marker::Model;
 
+// How many guesses there are of what weights name: that many levels have one each, and those behind them share these.
+const GUESSES: usize = 8;
+
 /// A table that is being read.
 pub struct TableBuilder {
     // Whether an order is open.
@@ -585,12 +588,12 @@ impl TableBuilder {
     }
 
     // Why an identifier in a weight is refused, if it is: what is placed was declared, so a second look is taken only at
-    // what isn't.
-    fn weight_cause(&self, id: &Id) -> Option<LoadCause>
+    // what isn't. A name is looked for at a guess first.
+    fn weight_cause(&self, id: &Id, guess: &mut usize) -> Option<LoadCause>
         ensures cause { result ≡ weight_cause self.now.declared self.now.sections id.now }
         ensures spared { IfSome result (λ cause. cause ≢ OutOfMemory) }
     {
-        if self.builder.is_placed(id) {
+        if self.builder.is_placed_behind(id, guess) {
             return None;
         }
         if self.builder.is_known(id) {
@@ -600,12 +603,12 @@ impl TableBuilder {
     }
 
     // Why the first of these identifiers that is refused in a weight is.
-    fn ids_cause(&self, ids: &[Id]) -> Option<LoadCause>
+    fn ids_cause(&self, ids: &[Id], guess: &mut usize) -> Option<LoadCause>
         ensures cause { result ≡ ids_cause self.now.declared self.now.sections ids.now }
         ensures spared { IfSome result (λ cause. cause ≢ OutOfMemory) }
     {
         for id in ids {
-            if let Some(cause) = self.weight_cause(id) {
+            if let Some(cause) = self.weight_cause(id, guess) {
                 return Some(cause);
             }
         }
@@ -613,7 +616,12 @@ impl TableBuilder {
     }
 
     // Why a weight is refused, if it is. None of the identifiers of the weight that was judged before it, if one was, is refused.
-    fn named_cause(&self, weight: &Weight, judged: Option<&Weight>) -> Option<LoadCause>
+    fn named_cause(
+        &self,
+        weight: &Weight,
+        judged: Option<&Weight>,
+        guess: &mut usize,
+    ) -> Option<LoadCause>
         requires judged { IfSome judged (λ weight. ids_cause self.now.declared self.now.sections (weight_ids weight.now) ≡ None) }
         ensures cause { result ≡ ids_cause self.now.declared self.now.sections (weight_ids weight.now) }
         ensures spared { IfSome result (λ cause. cause ≢ OutOfMemory) }
@@ -624,20 +632,26 @@ impl TableBuilder {
             }
         }
         match weight {
-            Weight::Names(ids) => self.ids_cause(ids.get()),
+            Weight::Names(ids) => self.ids_cause(ids.get(), guess),
             _ => None,
         }
     }
 
     // Why the first of these weights that is refused is. Of those of the entry before, none is refused; most name at a level what
-    // they did there, which isn't looked up again.
-    fn weights_cause(&self, weights: &[Weight], before: &[Weight]) -> Option<LoadCause>
+    // they did there, which isn't looked up again. Most others name what was placed behind that, so each level has a guess.
+    fn weights_cause(
+        &self,
+        weights: &[Weight],
+        before: &[Weight],
+        guesses: &mut [usize; GUESSES],
+    ) -> Option<LoadCause>
         requires judged { ids_cause self.now.declared self.now.sections (flat_map weight_ids before.now) ≡ None }
         ensures cause { result ≡ ids_cause self.now.declared self.now.sections (flat_map weight_ids weights.now) }
         ensures spared { IfSome result (λ cause. cause ≢ OutOfMemory) }
     {
         for level in 0..weights.len() {
-            if let Some(cause) = self.named_cause(&weights[level], before.get(level)) {
+            let guess = &mut guesses[level % GUESSES];
+            if let Some(cause) = self.named_cause(&weights[level], before.get(level), guess) {
                 return Some(cause);
             }
         }
@@ -661,6 +675,7 @@ impl TableBuilder {
         ensures spared { IfErr result (λ fault. fault.cause ≢ OutOfMemory) }
     {
         let mut before: &'a [Weight] = &[];
+        let mut guesses = [0; GUESSES];
         for item in walk {
             let entry = match item {
                 WalkItem::Section(_) => continue,
@@ -669,7 +684,7 @@ impl TableBuilder {
             let Some((number, later)) = numbers.split_first() else {
                 unreachable!();
             };
-            if let Some(cause) = self.weights_cause(entry.weights(), before) {
+            if let Some(cause) = self.weights_cause(entry.weights(), before, &mut guesses) {
                 return Err(LoadFault {
                     line: *number,
                     cause,
