@@ -303,15 +303,14 @@ impl DeltaReader {
         let number = parsing.line.number;
         let order = is_order(&parsing.line.parsed);
         let ends = ends_category(&parsing.line.parsed);
-        let (next, request) = take_line(self.alloc, self.block.take(), parsing);
-        if leaves_lack(order, &next, &request) {
-            drop((next, request));
+        let request = take_line(self.alloc, &mut self.block, parsing);
+        if leaves_lack(order, &self.block, &request) {
+            drop((self.block.take(), request));
             return Err(file_fault(FaultAt {
                 line: number,
                 fault: RequestFault::Lex(LexFault::OutOfMemory),
             }));
         }
-        self.block = next;
         self.ended = ends;
         Ok(statement_of(request))
     }

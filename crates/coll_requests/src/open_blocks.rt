@@ -4,9 +4,10 @@
 //! once a line has spoiled it, that line's fault alone. A growth that is refused makes the line that needed it a refused
 //! one. A new kind of line that a block doesn't take needs no change here: it is one of `StandaloneLine`.
 
-ghost use Rattle.std.specs.Prelude.{◌≡◌, [], Bool, Some, None, IfSome, OnOk, OnErr, option_to_list};
+ghost use Rattle.std.specs.Prelude.{◌≡◌, [], Bool, Some, None, IsSome, IfSome, OnOk, OnErr, option_to_list};
 ghost use Rattle.coll_syntax.specs.Proper.{IsId, IsProperLine, IsProper};
 ghost use Rattle.coll_requests.specs.ProperLines.{IsProperParsed, IsProperRequest};
+ghost use Rattle.coll_requests.specs.Parsing.{no_memory};
 ghost use Rattle.coll_requests.specs.Taking.{TakesParsing};
 ghost use Rattle.coll_requests.specs.Requests.{asked_at, fault_at, refused_at, order_by, standalone_requests, starved_at as line_starved};
 ghost use Rattle.coll_requests.specs.OpenBlocks.{is_full as is_full_status, open_at, begun_at, spoiled_by as kept_of_fault};
@@ -215,30 +216,95 @@ fn refused(line: u32, fault: RequestFault) -> RequestAt
     asked(line, Request::Refused(fault))
 }
 
-/// What a line leaves: the block that is open after it, and the request that it completes.
-pub(crate) type AfterLine = (Option<OpenBlock>, Option<RequestAt>);
+// What a line leaves: the block that is open after it, and the request that it completes.
+type AfterLine = (Option<OpenBlock>, Option<RequestAt>);
 
-/// Takes a line: the block that is open after it, and the request that it completes. Memory is taken for the room of an order
-/// line in a block; where it is refused, the line is a refused one.
-pub(crate) fn take_line(alloc: Global, block: Option<OpenBlock>, parsing: Parsing) -> AfterLine
+/// Takes a line, with the block that is open, and answers the request that it completes. Memory is taken for the room of an order
+/// line in a block; where it is refused, the line is a refused one. An order line joins the block where that stands.
+pub(crate) fn take_line(
+    alloc: Global,
+    block: &mut Option<OpenBlock>,
+    parsing: Parsing,
+) -> Option<RequestAt>
     requires { IsProperParsed parsing.line.parsed }
-    ensures taken { (starved : Bool) × TakesParsing starved block parsing result.0 result.1 }
-    ensures proper { IfSome result.1 (λ request. IsProperRequest request.request) }
+    ensures taken { (starved : Bool) × TakesParsing starved block.old parsing block.new result }
+    ensures proper { IfSome result (λ request. IsProperRequest request.request) }
 {
     let Parsing { line, opening } = parsing;
     let ParsedLine { number, parsed } = line;
-    let Some(block) = block else {
-        return outside(alloc, number, parsed);
-    };
     match parsed {
-        Parsed::OrderLine(order) => order_inside(block, opening, number, order),
-        parsed => inside(alloc, block, number, parsed),
+        Parsed::OrderLine(order) => take_order(block, opening, number, order),
+        parsed => take_other(alloc, block, number, parsed),
     }
 }
 
-// Takes a line where no block is open.
+// Takes an order line. Where memory for it is refused, it is a refused line.
+fn take_order(
+    block: &mut Option<OpenBlock>,
+    opening: Opening,
+    number: u32,
+    order: OrderLine,
+) -> Option<RequestAt>
+    requires { IsProperLine order }
+    ensures taken { (starved : Bool) × TakesParsing starved block.old
+        (record { line = record { number = number; parsed = Parsed.OrderLine order }; opening = opening }) block.new result }
+    ensures proper { IfSome result (λ request. IsProperRequest request.request) }
+{
+    let Some(open) = block else {
+        return Some(stated(number, Statement::Reweight(order)));
+    };
+    match open.join(number, order) {
+        Ok(()) => None,
+        Err(_) => take_starved(block, opening, number),
+    }
+}
+
+// Takes a line of a block to which memory was refused.
+fn take_starved(block: &mut Option<OpenBlock>, opening: Opening, number: u32) -> Option<RequestAt>
+    requires { IsSome block.old }
+    ensures block { block.new ≡ kept_by block.old number (no_memory opening) }
+    ensures request { option_to_list result ≡ kept_requests_by block.old number (no_memory opening) }
+    ensures proper { IfSome result (λ request. IsProperRequest request.request) }
+{
+    let Some(open) = block.take() else {
+        unreachable!();
+    };
+    let (next, request) = refused_inside(open, opening, starved_at(number));
+    *block = next;
+    request
+}
+
+// Takes a line that is no order line.
+fn take_other(
+    alloc: Global,
+    block: &mut Option<OpenBlock>,
+    number: u32,
+    parsed: Parsed,
+) -> Option<RequestAt>
+    requires proper { IsProperParsed parsed }
+    requires no_order { order_by parsed ≡ [] }
+    ensures block { block.new ≡ kept_by block.old number parsed }
+    ensures request { option_to_list result ≡ kept_requests_by block.old number parsed }
+    ensures proper { IfSome result (λ request. IsProperRequest request.request) }
+{
+    match block.take() {
+        None => {
+            let (next, request) = outside(alloc, number, parsed);
+            *block = next;
+            request
+        }
+        Some(open) => {
+            let (next, request) = inside(alloc, open, number, parsed);
+            *block = next;
+            request
+        }
+    }
+}
+
+// Takes a line where no block is open, which is no order line.
 fn outside(alloc: Global, number: u32, parsed: Parsed) -> AfterLine
-    requires { IsProperParsed parsed }
+    requires proper { IsProperParsed parsed }
+    requires no_order { order_by parsed ≡ [] }
     ensures block { result.0 ≡ kept_by None number parsed }
     ensures request { option_to_list result.1 ≡ kept_requests_by None number parsed }
     ensures proper { IfSome result.1 (λ request. IsProperRequest request.request) }
@@ -256,7 +322,7 @@ fn outside(alloc: Global, number: u32, parsed: Parsed) -> AfterLine
         Parsed::BadCommand(fault) => (None, Some(refused(number, fault))),
         Parsed::BlockStart(target) => (Some(OpenBlock::begin(alloc, number, target)), None),
         Parsed::BlockEnd => (None, Some(refused(number, RequestFault::NoBlock))),
-        Parsed::OrderLine(order) => (None, Some(stated(number, Statement::Reweight(order)))),
+        Parsed::OrderLine(_) => unreachable!(),
         Parsed::Standalone(line) => (None, standalone_request(number, line)),
     }
 }
@@ -335,19 +401,6 @@ fn inside(alloc: Global, block: OpenBlock, number: u32, parsed: Parsed) -> After
             };
             (Some(block.spoil(at)), None)
         }
-    }
-}
-
-// Takes an order line where a block is open. Where memory for it is refused, it is a refused line.
-fn order_inside(mut block: OpenBlock, opening: Opening, number: u32, order: OrderLine) -> AfterLine
-    requires { IsProperLine order }
-    ensures taken { (starved : Bool) × TakesParsing starved (Some block)
-        (record { line = record { number = number; parsed = Parsed.OrderLine order }; opening = opening }) result.0 result.1 }
-    ensures proper { IfSome result.1 (λ request. IsProperRequest request.request) }
-{
-    match block.join(number, order) {
-        Ok(()) => (Some(block), None),
-        Err(_) => refused_inside(block, opening, starved_at(number)),
     }
 }
 

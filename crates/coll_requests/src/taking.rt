@@ -40,11 +40,7 @@ impl LineParser {
                 drop(parsing);
                 Err(fault)
             }
-            None => {
-                let (next, request) = take_line(alloc, block.take(), parsing);
-                *block = next;
-                Ok(request)
-            }
+            None => Ok(take_line(alloc, block, parsing)),
         }
     }
 }

@@ -1,9 +1,8 @@
 -- What was parsed is taken; memory was refused to the line once, if at all.
-use Rattle.std.proofs.Common.{Option, true, sym, ap, ◌∙◌, subst}
-use Rattle.coll_requests.specs.Taking.{stop_at, TakesParsing}
+use Rattle.std.proofs.Common.{true, sym, ap, ◌∙◌}
+use Rattle.coll_requests.specs.Taking.{stop_at}
 use Rattle.coll_requests.proofs.LineStops.{parsed_ends}
 use Rattle.coll_requests.proofs.PhysicalTaking.{physical_none, physical_taken}
-use Rattle.coll_requests.specs.declared.open_blocks.OpenBlock.{OpenBlock}
 use Rattle.coll_requests.proofs.parsing.LineParser.take.Goals as goal
 
 pub returns-in_default-clause-taken : goal.returns-in_default-clause-taken
@@ -11,10 +10,9 @@ returns-in_default-clause-taken c = physical_none c.in_default.ensures.parsed.0 
 
 pub returns-in-None-clause-taken : goal.returns-in-None-clause-taken
 returns-in-None-clause-taken c =
-    let taken = c.take_line-next.ensures.taken in
-    physical_taken c.in-Some.ensures.parsed.0 taken.0 c.args.self.now c.parse.new.self c.args.line.now c.in-Some.parsing c.args.block.now c.take_line-next.result.0 c.take_line-next.result.1
-    c.in-Some.ensures.parsed.1 c.in-Some.ensures.opening (sym c.stop.ensures ∙ c.in-None.is)
-    (subst (λ (block : Option OpenBlock). TakesParsing taken.0 block c.in-Some.parsing c.take_line-next.result.0 c.take_line-next.result.1) c.take.ensures.value taken.1)
+    let taken = c.take_line.ensures.taken in
+    physical_taken c.in-Some.ensures.parsed.0 taken.0 c.args.self.now c.parse.new.self c.args.line.now c.in-Some.parsing c.args.block.now c.take_line.new.block c.take_line.result
+    c.in-Some.ensures.parsed.1 c.in-Some.ensures.opening (sym c.stop.ensures ∙ c.in-None.is) taken.1
 
 pub returns-in-Some-stop-clause-ends : goal.returns-in-Some-stop-clause-ends
 returns-in-Some-stop-clause-ends c =
