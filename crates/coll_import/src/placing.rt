@@ -24,6 +24,8 @@ pub(crate) struct Placing {
     // Whether an order is open.
     open: bool,
     ellipses: Ellipses,
+    // Where the name of the next order line is looked for first: names are mostly placed in the order in which they were declared.
+    guess: usize,
 }
 
 impl Placing {
@@ -35,6 +37,7 @@ impl Placing {
             started: false,
             open: false,
             ellipses: Ellipses::new(alloc),
+            guess: 0,
         }
     }
 
@@ -62,6 +65,7 @@ impl Placing {
             started: _,
             open: _,
             ellipses,
+            guess: _,
         } = self;
         drop(ellipses);
         (meanings, order)
@@ -156,7 +160,7 @@ impl Placing {
         line: OrderLine,
         report: &mut Report,
     ) -> Result<(), SourceFault> {
-        match self.meanings.found(&line.id) {
+        match self.meanings.found_behind(&line.id, &mut self.guess) {
             Found::Second(_) => {
                 let line = self.meanings.meant(line)?;
                 let found = self.meanings.found(&line.id);

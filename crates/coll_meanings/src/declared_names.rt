@@ -11,6 +11,7 @@
 //! the names and not in them, so that meanings over none have nothing of a table.
 
 use crate::SourceStatement;
+use crate::known_names::{Alike, KnownNames, Meaning, Taken};
 use crate::placed::Found;
 use coll_lex::{TextBuf, is_name};
 use coll_lookups::{HashKeys, WordKeys};
@@ -25,68 +26,11 @@ use coll_texts::LoadCause;
 use indexmap::IndexMap;
 use std::alloc::{AllocError, Global};
 
-// What a name means.
-#[derive(Drop)]
-enum Meaning {
-    // A collating symbol.
-    Symbol,
-    // A collating element.
-    Element,
-    // Something else: a character, another element, or the symbol of a second name.
-    Other(Id),
-}
-
-// What is known of a name.
-#[derive(Drop)]
-struct Known {
-    meaning: Meaning,
-    // Whether the table that is tailored declares it, and no line of the source has done so yet.
-    by_table: bool,
-}
-
-impl Known {
-    // What has declared the name.
-    fn taken(&self) -> Taken {
-        Taken {
-            by_table: self.by_table,
-            is_symbol: matches!(self.meaning, Meaning::Symbol),
-        }
-    }
-}
-
-// What has declared a name.
-#[derive(Clone, Copy)]
-struct Taken {
-    // Whether the table that is tailored has, and no line of the source.
-    by_table: bool,
-    // Whether it is a symbol.
-    is_symbol: bool,
-}
-
-// When a declaration is like the one that has declared its name before.
-#[derive(Clone, Copy)]
-enum Alike {
-    // Where that is a symbol's.
-    IfSymbol,
-    // That is known.
-    Known(bool),
-}
-
-impl Alike {
-    // Whether it is like the one that has declared its name.
-    fn is_told_by(self, taken: Taken) -> bool {
-        match self {
-            Alike::IfSymbol => taken.is_symbol,
-            Alike::Known(alike) => alike,
-        }
-    }
-}
-
 /// All names that are declared. Of a name that isn't known here, the table is asked that is handed in, if there is one.
 #[derive(Drop)]
 pub(crate) struct DeclaredNames {
     // What is known here.
-    names: IndexMap<String, Known, WordKeys>,
+    names: KnownNames,
     // The name of the element of each string.
     strings: IndexMap<String, TextBuf, WordKeys>,
     // Whether the strings of the table are still to be kept.
@@ -99,7 +43,7 @@ impl DeclaredNames {
     /// Nothing is known yet.
     pub(crate) fn new(alloc: Global, keys: HashKeys) -> DeclaredNames {
         DeclaredNames {
-            names: IndexMap::with_hasher(alloc, WordKeys::new(keys)),
+            names: KnownNames::new(alloc, keys),
             strings: IndexMap::with_hasher(alloc, WordKeys::new(keys)),
             wants_strings: true,
             declared: Vec::new(alloc),
@@ -110,14 +54,29 @@ impl DeclaredNames {
     /// Knows a declaration of a table that is tailored and isn't asked.
     pub(crate) fn know(&mut self, item: DeclaredItem<'_>) -> Result<(), AllocError> {
         match item {
-            DeclaredItem::Symbol(name) => self.mean(name, Meaning::Symbol, true),
+            DeclaredItem::Symbol(name) => self.know_name(name, Meaning::Symbol),
             DeclaredItem::Element(name, text) => {
                 self.know_string(name, text)?;
-                self.mean(name, Meaning::Element, true)
+                self.know_name(name, Meaning::Element)
             }
             DeclaredItem::Equivalence(name, symbol) => {
                 let own = TextBuf::copied(self.alloc, symbol)?;
-                self.mean(name, Meaning::Other(Id::Named(own)), true)
+                self.know_name(name, Meaning::Other(Id::Named(own)))
+            }
+        }
+    }
+
+    // Gives a name the meaning that it has in a table.
+    fn know_name(&mut self, name: &str, meaning: Meaning) -> Result<(), AllocError> {
+        match TextBuf::copied(self.alloc, name) {
+            Ok(name) => {
+                let known = self.names.mean(&name, meaning, true);
+                drop(name);
+                known
+            }
+            Err(error) => {
+                drop(meaning);
+                Err(error)
             }
         }
     }
@@ -137,21 +96,22 @@ impl DeclaredNames {
     pub(crate) fn found(&self, id: &Id) -> Found {
         match id {
             Id::Char(c) => Found::Char(*c),
-            Id::Named(name) => self.found_name(name.get()),
+            Id::Named(name) => self.names.found(name.get()),
             Id::Undefined => Found::Undefined,
         }
     }
 
-    /// What is found of a name here, whatever a table declares.
-    pub(crate) fn found_name(&self, name: &str) -> Found {
-        let Some((number, _, known)) = self.names.get_full(name) else {
-            return Found::Unknown;
-        };
-        match known.meaning {
-            Meaning::Symbol => Found::Symbol(number),
-            Meaning::Element => Found::Element(number),
-            Meaning::Other(_) => Found::Second(number),
+    /// What is found of an identifier here, as `found` tells it. A name is looked for at a guess first, which is the place behind it then.
+    pub(crate) fn found_behind(&self, id: &Id, guess: &mut usize) -> Found {
+        match id {
+            Id::Named(name) => self.names.found_behind(name.get(), guess),
+            _ => self.found(id),
         }
+    }
+
+    /// What is known of names here.
+    pub(crate) fn known(&self) -> &KnownNames {
+        &self.names
     }
 
     /// What an identifier stands for: itself, or what its name means.
@@ -266,7 +226,7 @@ impl DeclaredNames {
 
     // Whether a name is declared.
     fn is_declared(&self, table: Option<&Table>, name: &str) -> bool {
-        self.names.contains_key(name) || own_name(table, name).is_some()
+        self.names.contains(name) || own_name(table, name).is_some()
     }
 
     // Declares a symbol, unless its name is declared already.
@@ -294,44 +254,11 @@ impl DeclaredNames {
         name: &TextBuf,
         report: &mut Report,
     ) -> Result<(), SourceFault> {
-        if let Some(taken) = self.mean_symbol(name.get())? {
+        if let Some(taken) = self.names.mean_symbol(name)? {
             return tell_taken(report, place, name, taken, Alike::IfSymbol);
         }
         let statement = Statement::Symbol(name.try_copy()?);
         Ok(self.declared.push(SourceStatement { place, statement })?)
-    }
-
-    // Makes a name that of a symbol, unless it is declared. Answers what has declared it, if anything has; from now on a line of the
-    // source has.
-    fn mean_symbol(&mut self, name: &str) -> Result<Option<Taken>, AllocError> {
-        let name = String::from_str(self.alloc, name)?;
-        let symbol = Known {
-            meaning: Meaning::Symbol,
-            by_table: false,
-        };
-        let (number, before) = self.names.insert_full(name, symbol)?;
-        match before {
-            Some(before) => Ok(Some(self.mean_again(number, before))),
-            None => Ok(None),
-        }
-    }
-
-    // Gives the name of a number the meaning back that it had. Answers what had declared it; from now on a line of the source has.
-    fn mean_again(&mut self, number: usize, before: Known) -> Taken {
-        let taken = before.taken();
-        let Known {
-            meaning,
-            by_table: _,
-        } = before;
-        let known = Known {
-            meaning,
-            by_table: false,
-        };
-        match self.names.get_index_mut(number) {
-            Some(place) => drop(std::mem::replace(place, known)),
-            None => drop(known),
-        }
-        taken
     }
 
     // Declares each symbol of a range.
@@ -401,7 +328,7 @@ impl DeclaredNames {
         report: &mut Report,
     ) -> Result<(), SourceFault> {
         match report.count(adjustment, place) {
-            Ok(()) => Ok(self.mean(name.get(), Meaning::Other(other), false)?),
+            Ok(()) => Ok(self.names.mean(name, Meaning::Other(other), false)?),
             Err(error) => {
                 drop(other);
                 Err(SourceFault::from(error))
@@ -599,15 +526,13 @@ impl DeclaredNames {
         table: Option<&Table>,
         name: &TextBuf,
     ) -> Result<Option<Taken>, AllocError> {
-        if let Some(known) = self.names.get_mut(name.get()) {
-            let taken = known.taken();
-            known.by_table = false;
+        if let Some(taken) = self.names.take_by_source(name.get()) {
             return Ok(Some(taken));
         }
         match meant_by_table(self.alloc, table, name)? {
             Some(meaning) => {
                 let is_symbol = matches!(meaning, Meaning::Symbol);
-                self.mean(name.get(), meaning, false)?;
+                self.names.mean(name, meaning, false)?;
                 Ok(Some(Taken {
                     by_table: true,
                     is_symbol,
@@ -630,25 +555,11 @@ impl DeclaredNames {
             drop(statement);
             return Err(place.load_fault(LoadCause::Full));
         }
-        match self.mean(name.get(), meaning, false) {
+        match self.names.mean(name, meaning, false) {
             Ok(()) => Ok(self.declared.push(SourceStatement { place, statement })?),
             Err(error) => {
                 drop(statement);
                 Err(SourceFault::from(error))
-            }
-        }
-    }
-
-    // Gives a name its meaning.
-    fn mean(&mut self, name: &str, meaning: Meaning, by_table: bool) -> Result<(), AllocError> {
-        match String::from_str(self.alloc, name) {
-            Ok(name) => {
-                drop(self.names.insert(name, Known { meaning, by_table })?);
-                Ok(())
-            }
-            Err(error) => {
-                drop(meaning);
-                Err(error)
             }
         }
     }

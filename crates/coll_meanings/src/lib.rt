@@ -6,18 +6,23 @@
 //! by tests alone. A way through the crate:
 //!
 //! - `source_statements`: what is made of the lines of a source, with its place (`LeftOut`);
+//! - `name_keys` and `known_names`: what is known of each name, found by hash or at a guess (`NameKeys`);
 //! - `declared_names`: what each name of a source means, and what is declared; `meanings`, over no table, and `table_meanings`, over one
 //!   that is tailored;
-//! - `placed`: what an order places, by what was found of it;
+//! - `placed`: what an order places, by what was found of it, and `source_ids`: sets of identifiers, both with characters in `char_sets`;
 //! - `ellipses`, with `order_lines`: the characters between two order lines;
 //! - `weights`: weights by what is placed.
 #![tactic(auto)]
 
+mod char_sets;
 mod declared_names;
 mod ellipses;
+mod known_names;
 mod meanings;
+mod name_keys;
 mod order_lines;
 mod placed;
+mod source_ids;
 mod source_statements;
 mod table_meanings;
 mod weights;
@@ -26,9 +31,10 @@ pub use ellipses::{Ellipses, Run};
 pub use meanings::Meanings;
 pub use order_lines::{OrderLines, put_before, put_line, put_range};
 pub use placed::{Found, Placed};
+pub use source_ids::SourceIds;
 pub use source_statements::{SourceStatement, lose_statement, proper_line};
 pub use table_meanings::TableMeanings;
 pub use weights::{
-    LastNames, PlacedLookUp, TableLookUp, WeightLookUp, without_symbol_weights,
+    LastNames, PlacedLookUp, TableLookUp, TailoredLookUp, WeightLookUp, without_symbol_weights,
     without_weights_of_symbol,
 };

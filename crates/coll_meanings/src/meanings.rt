@@ -45,6 +45,12 @@ impl Meanings {
         self.names.found(id)
     }
 
+    /// What is found of an identifier, as `found` tells it. A name is looked for at a guess first, where it mostly stands if names are
+    /// asked for in the order in which they were declared. The guess is then the place behind it.
+    pub fn found_behind(&self, id: &Id, guess: &mut usize) -> Found {
+        self.names.found_behind(id, guess)
+    }
+
     /// Whether an identifier is a symbol's.
     pub fn is_symbol(&self, id: &Id) -> bool {
         self.names.is_symbol(None, id)

@@ -1,10 +1,11 @@
 //! What an order places, by what was found of it.
 //!
 //! An identifier is looked up once (`Meanings::found`): a name that is declared has a number from then on, and so whether it is placed,
-//! which is asked of each order line and of each identifier in a weight, takes no other look at its name.
+//! which is asked of each order line and of each identifier in a weight, takes no other look at its name. Characters have numbers of
+//! their own, and so none is hashed (`CharSet`).
 
-use coll_lookups::{HashKeys, WordKeys};
-use indexmap::IndexSet;
+use crate::char_sets::CharSet;
+use coll_lookups::HashKeys;
 use std::alloc::{AllocError, Global};
 
 /// What was found of an identifier.
@@ -29,16 +30,16 @@ pub enum Found {
 pub struct Placed {
     // Whether a name is placed, by its number. One of a larger number isn't.
     names: Vec<bool>,
-    chars: IndexSet<char, WordKeys>,
+    chars: CharSet,
     undefined: bool,
 }
 
 impl Placed {
     /// Nothing is placed. It takes no memory.
-    pub fn new(alloc: Global, keys: HashKeys) -> Placed {
+    pub fn new(alloc: Global, _keys: HashKeys) -> Placed {
         Placed {
             names: Vec::new(alloc),
-            chars: IndexSet::with_hasher(alloc, WordKeys::new(keys)),
+            chars: CharSet::new(alloc),
             undefined: false,
         }
     }
@@ -46,7 +47,7 @@ impl Placed {
     /// Puts in what was found, and answers whether it wasn't there. A name that isn't declared is never there.
     pub fn put(&mut self, found: Found) -> Result<bool, AllocError> {
         match found {
-            Found::Char(c) => Ok(self.chars.insert(c)?),
+            Found::Char(c) => self.chars.put(c),
             Found::Undefined => Ok(!std::mem::replace(&mut self.undefined, true)),
             Found::Symbol(number) => self.put_name(number),
             Found::Element(number) => self.put_name(number),
@@ -69,7 +70,7 @@ impl Placed {
     /// Whether what was found is there.
     pub(crate) fn contains(&self, found: Found) -> bool {
         match found {
-            Found::Char(c) => self.chars.contains(&c),
+            Found::Char(c) => self.chars.contains(c),
             Found::Undefined => self.undefined,
             Found::Symbol(number) => self.has_name(number),
             Found::Element(number) => self.has_name(number),

@@ -6,11 +6,12 @@
 use crate::declared_names::DeclaredNames;
 use crate::meanings::Meanings;
 use crate::placed::{Found, Placed};
+use crate::source_ids::SourceIds;
 use crate::table_meanings::TableMeanings;
-use coll_lex::{ListBuf, TextBuf};
+use coll_lex::ListBuf;
 use coll_lookups::IdSet;
 use coll_sources::{Adjustment, Lost, Report, SourceFault, SourcePlace};
-use coll_syntax::{Id, OrderLine, Weight};
+use coll_syntax::{Id, MOST_WEIGHT_IDS, OrderLine, Weight};
 use coll_table::Table;
 use std::alloc::{AllocError, Global};
 
@@ -44,7 +45,7 @@ impl WeightLookUp<'_> {
     }
 
     // The same, over no table.
-    fn look_up(&self) -> LookUp<InSet<'_>> {
+    fn look_up(&self) -> LookUp<InSet<'_, IdSet>> {
         LookUp {
             standing: InSet {
                 names: self.meanings.names(),
@@ -92,7 +93,59 @@ impl TableLookUp<'_, '_> {
     }
 
     // The same, over the table.
-    fn look_up(&self) -> LookUp<InSet<'_>> {
+    fn look_up(&self) -> LookUp<InSet<'_, IdSet>> {
+        LookUp {
+            standing: InSet {
+                names: self.meanings.names(),
+                table: Some(self.meanings.table()),
+                placed: self.placed,
+            },
+            levels: self.levels,
+            alloc: self.alloc,
+        }
+    }
+}
+
+/// What weights are looked up in, over a table that is tailored, where what is placed beside what it places is a set of a source.
+#[derive(Clone, Copy)]
+pub struct TailoredLookUp<'a, 't> {
+    /// What names mean.
+    pub meanings: &'a TableMeanings<'t>,
+    /// What is placed beside what the table places.
+    pub placed: &'a SourceIds,
+    /// How many weights an entry may have.
+    pub levels: usize,
+    /// Where weights take memory.
+    pub alloc: Global,
+}
+
+impl TailoredLookUp<'_, '_> {
+    /// An order line whose weights name what is placed, and no more than there are levels.
+    pub fn line(
+        &self,
+        place: SourcePlace,
+        line: OrderLine,
+        report: &mut Report,
+    ) -> Result<OrderLine, SourceFault> {
+        let look_up = self.look_up();
+        if look_up.line_stays(&line) {
+            return Ok(line);
+        }
+        look_up.line(place, line, report)
+    }
+
+    /// Whether an identifier is placed.
+    pub fn is_placed(&self, id: &Id) -> bool {
+        self.look_up().standing.is_placed(id)
+    }
+
+    /// Whether all that weights name is placed, and stands for nothing else.
+    pub fn all_stay(&self, weights: &[Weight]) -> bool {
+        self.look_up().all_stay(weights)
+    }
+
+    // The same, over the table.
+    fn look_up(&self) -> LookUp<InSet<'_, SourceIds>> {
         LookUp {
             standing: InSet {
                 names: self.meanings.names(),
@@ -164,26 +217,39 @@ impl<'a> PlacedLookUp<'a> {
         let Weight::Names(ids) = weight else {
             return Ok(true);
         };
-        match ids.get() {
-            [Id::Named(name)] => self.name_stays(level, name, last),
-            _ => Ok(self.look_up().all_named_stay(weight)),
+        for (at, id) in ids.get().iter().enumerate() {
+            if !self.id_stays(place_of(level, at), id, last)? {
+                return Ok(false);
+            }
+        }
+        Ok(true)
+    }
+
+    // Whether an identifier that a weight names at this place is placed, and stands for nothing else.
+    fn id_stays(&self, place: usize, id: &Id, last: &mut LastNames) -> Result<bool, AllocError> {
+        match id {
+            Id::Named(name) => self.name_stays(place, name.get(), last),
+            _ => Ok(self.standing().stays(id)),
         }
     }
 
-    // Whether a name that a weight of this level names alone is placed, and stands for nothing else.
+    // Whether a name that a weight names at this place is placed, and stands for nothing else.
     fn name_stays(
         &self,
-        level: usize,
-        name: &TextBuf,
+        place: usize,
+        name: &str,
         last: &mut LastNames,
     ) -> Result<bool, AllocError> {
-        if last.is(level, name) {
+        let known = self.meanings.names().known();
+        let before = last.get(place);
+        if known.is_at(before, name) {
             return Ok(true);
         }
-        if !self.standing().name_stays(name) {
+        let mut behind = before.wrapping_add(1);
+        if !self.standing().found_stays(known.found_behind(name, &mut behind)) {
             return Ok(false);
         }
-        last.keep(level, name)?;
+        last.keep(place, behind.wrapping_sub(1))?;
         Ok(true)
     }
 
@@ -205,37 +271,44 @@ impl<'a> PlacedLookUp<'a> {
     }
 }
 
-/// The name that a weight named last at each level, alone, and that is placed and stands for nothing else: most weights name what those
-/// of the line before name.
+/// The names that weights named last, by their numbers, that are placed and stand for nothing else: most weights name what those of the
+/// line before name, or what was declared behind that.
 #[derive(Drop)]
 pub struct LastNames {
-    // By level.
-    names: Vec<Option<TextBuf>>,
+    // By the place at which a weight names them; no number where none was named.
+    numbers: Vec<usize>,
+}
+
+// No number of a name.
+const NO_NUMBER: usize = usize::MAX;
+
+// The place at which a weight of a level names its identifiers, the first of them at 0.
+fn place_of(level: usize, at: usize) -> usize {
+    level
+        .saturating_mul(MOST_WEIGHT_IDS)
+        .saturating_add(at.min(MOST_WEIGHT_IDS))
 }
 
 impl LastNames {
     /// None has been named. It takes no memory.
     pub fn new(alloc: Global) -> LastNames {
         LastNames {
-            names: Vec::new(alloc),
+            numbers: Vec::new(alloc),
         }
     }
 
-    // Whether this is the name that was named last at a level.
-    fn is(&self, level: usize, name: &TextBuf) -> bool {
-        match self.names.get(level) {
-            Some(Some(last)) => last.get() == name.get(),
-            _ => false,
-        }
+    // The number of the name that was named last at a place.
+    fn get(&self, place: usize) -> usize {
+        self.numbers.get(place).copied().unwrap_or(NO_NUMBER)
     }
 
-    // Keeps the name that was named last at a level.
-    fn keep(&mut self, level: usize, name: &TextBuf) -> Result<(), AllocError> {
-        for _ in self.names.len()..=level {
-            self.names.push(None)?;
+    // Keeps the number of the name that was named last at a place.
+    fn keep(&mut self, place: usize, number: usize) -> Result<(), AllocError> {
+        for _ in self.numbers.len()..=place {
+            self.numbers.push(NO_NUMBER)?;
         }
-        if let Some(last) = self.names.get_mut(level) {
-            drop(last.replace(name.try_copy()?));
+        if let Some(last) = self.numbers.get_mut(place) {
+            *last = number;
         }
         Ok(())
     }
@@ -253,16 +326,34 @@ trait Standing {
     fn resolved(&self, id: &Id) -> Result<Id, AllocError>;
 }
 
+// A set of identifiers.
+trait Ids {
+    // Whether an identifier is there.
+    fn has(&self, id: &Id) -> bool;
+}
+
+impl Ids for IdSet {
+    fn has(&self, id: &Id) -> bool {
+        self.contains(id)
+    }
+}
+
+impl Ids for SourceIds {
+    fn has(&self, id: &Id) -> bool {
+        self.contains(id)
+    }
+}
+
 // What names mean, and what is placed beside what a table places, if there is one.
-#[derive(Clone, Copy)]
-struct InSet<'a> {
+#[derive(Drop)]
+struct InSet<'a, S> {
     names: &'a DeclaredNames,
     table: Option<&'a Table>,
     // What is placed beside what the table places.
-    placed: &'a IdSet,
+    placed: &'a S,
 }
 
-impl InSet<'_> {
+impl<S> InSet<'_, S> {
     // Whether the table places an identifier.
     fn is_in_table(&self, id: &Id) -> bool {
         match self.table {
@@ -272,9 +363,9 @@ impl InSet<'_> {
     }
 }
 
-impl Standing for InSet<'_> {
+impl<S: Ids> Standing for InSet<'_, S> {
     fn is_placed(&self, id: &Id) -> bool {
-        self.placed.contains(id) || self.is_in_table(id)
+        self.placed.has(id) || self.is_in_table(id)
     }
 
     fn stays(&self, id: &Id) -> bool {
@@ -294,11 +385,6 @@ struct ByNumber<'a> {
 }
 
 impl ByNumber<'_> {
-    // Whether a name is placed, and stands for nothing else.
-    fn name_stays(&self, name: &TextBuf) -> bool {
-        self.found_stays(self.names.found_name(name.get()))
-    }
-
     // Whether what was found is placed, and stands for nothing else.
     fn found_stays(&self, found: Found) -> bool {
         match found {
@@ -323,7 +409,7 @@ impl Standing for ByNumber<'_> {
 }
 
 // What weights are looked up in.
-#[derive(Clone, Copy)]
+#[derive(Drop)]
 struct LookUp<S> {
     standing: S,
     levels: usize,
@@ -382,6 +468,14 @@ impl<S: Standing> LookUp<S> {
             self.mend(place, weight, report)?;
         }
         Ok(())
+    }
+
+    // Whether a line has no more weights than there are levels, and all that they name is placed, and stands for nothing else.
+    fn line_stays(&self, line: &OrderLine) -> bool {
+        match &line.weights {
+            Some(weights) => weights.get().len() <= self.levels && self.all_stay(weights.get()),
+            None => true,
+        }
     }
 
     // Whether all that weights name is placed, and stands for nothing else.

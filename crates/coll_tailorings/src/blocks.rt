@@ -3,14 +3,15 @@
 //! A block is gathered line by line, cut where a statement can't go on, and made a statement where it ends. It is known at each step
 //! what is placed by then, so each statement is one that the table accepts, in its turn: what it would refuse is left out, and told.
 //! The table itself says what it places, so only what the statements place beside it is kept.
-//! A rule on what may stand in a block is a case of `in_block`; one on weights belongs to `WeightLookUp`.
+//! A rule on what may stand in a block is a case of `in_block`; one on weights belongs to `TailoredLookUp`.
 
 use crate::later_weights::{LaterWeights, LineAt};
 use crate::steps::{Step, StepAt};
 use coll_lex::ListBuf;
-use coll_lookups::{HashKeys, IdSet};
+use coll_lookups::HashKeys;
 use coll_meanings::{
-    SourceStatement, TableLookUp, TableMeanings, proper_line, without_weights_of_symbol,
+    SourceIds, SourceStatement, TableMeanings, TailoredLookUp, proper_line,
+    without_weights_of_symbol,
 };
 use coll_sources::{Adjustment, Lost, Report, SourceFault, SourcePlace};
 use coll_syntax::{Id, MOST_BLOCK_LINES, OrderLine, Statement, Weight};
@@ -23,8 +24,6 @@ struct Block {
     place: SourcePlace,
     target: Id,
     lines: Vec<LineAt>,
-    // The identifiers of its lines.
-    ids: IdSet,
     // Whether it is left out, since its target is placed nowhere.
     is_left_out: bool,
 }
@@ -43,7 +42,7 @@ pub(crate) struct Known<'t> {
     /// What names mean.
     pub(crate) meanings: TableMeanings<'t>,
     /// What all blocks place.
-    pub(crate) expected: IdSet,
+    pub(crate) expected: SourceIds,
     /// How many weights an entry may have.
     pub(crate) levels: usize,
 }
@@ -53,11 +52,12 @@ pub(crate) struct Known<'t> {
 pub(crate) struct Blocks<'t> {
     known: Known<'t>,
     // What is placed by the statements made so far.
-    placed: IdSet,
+    placed: SourceIds,
     block: Option<Block>,
+    // The identifiers of the lines of the block that is open.
+    in_block: SourceIds,
     later: LaterWeights,
     made: Vec<SourceStatement>,
-    keys: HashKeys,
     alloc: Global,
 }
 
@@ -71,11 +71,11 @@ impl<'t> Blocks<'t> {
     ) -> Blocks<'t> {
         Blocks {
             known,
-            placed: IdSet::new(alloc, keys),
+            placed: SourceIds::new(alloc, keys),
             block: None,
+            in_block: SourceIds::new(alloc, keys),
             later: LaterWeights::new(alloc, keys),
             made,
-            keys,
             alloc,
         }
     }
@@ -122,14 +122,15 @@ impl<'t> Blocks<'t> {
             known,
             placed,
             block,
+            in_block,
             later,
             made,
-            keys: _,
             alloc: _,
         } = self;
         drop(known);
         drop(placed);
         drop(block);
+        drop(in_block);
         drop(later);
         made
     }
@@ -186,8 +187,8 @@ impl<'t> Blocks<'t> {
     }
 
     // Weights are looked up in this, and in what the table places.
-    fn look_up<'a>(&'a self, placed: &'a IdSet) -> TableLookUp<'a, 't> {
-        TableLookUp {
+    fn look_up<'a>(&'a self, placed: &'a SourceIds) -> TailoredLookUp<'a, 't> {
+        TailoredLookUp {
             meanings: &self.known.meanings,
             placed,
             levels: self.known.levels,
@@ -240,7 +241,6 @@ impl<'t> Blocks<'t> {
             place,
             target,
             lines: Vec::new(self.alloc),
-            ids: IdSet::new(self.alloc, self.keys),
             is_left_out,
         };
         drop(self.block.replace(block));
@@ -289,10 +289,11 @@ impl<'t> Blocks<'t> {
         }
     }
 
-    // Notes what these lines place.
+    // Notes what these lines place, which stand in no block that is open any more.
     fn place_all(&mut self, lines: &[LineAt]) -> Result<(), AllocError> {
         for line in lines {
-            self.placed.insert(&line.line.id)?;
+            self.placed.put(&line.line.id)?;
+            self.in_block.take_out(&line.line.id);
         }
         Ok(())
     }
@@ -393,7 +394,7 @@ impl<'t> Blocks<'t> {
         report: &mut Report,
     ) -> Result<(), SourceFault> {
         match &self.block {
-            Some(block) if block.must_end_before(id) => {
+            Some(block) if block.must_end_before(id, &self.in_block) => {
                 report.count(Adjustment::BlockCut, place)?;
                 self.cut(place, report)
             }
@@ -428,7 +429,7 @@ impl<'t> Blocks<'t> {
     // Puts an order line behind the others of the block.
     fn put_last(&mut self, place: SourcePlace, line: OrderLine) -> Result<(), SourceFault> {
         match &mut self.block {
-            Some(block) => Ok(block.put(place, line)?),
+            Some(block) => Ok(block.put(place, line, &mut self.in_block)?),
             None => {
                 drop(line);
                 Ok(())
@@ -575,10 +576,8 @@ impl Block {
             place,
             target,
             lines,
-            ids,
             is_left_out: _,
         } = self;
-        drop(ids);
         BlockParts {
             place,
             target,
@@ -586,9 +585,14 @@ impl Block {
         }
     }
 
-    // Puts a line behind all others.
-    fn put(&mut self, place: SourcePlace, line: OrderLine) -> Result<(), AllocError> {
-        match self.ids.insert(&line.id) {
+    // Puts a line behind all others, and its identifier among theirs.
+    fn put(
+        &mut self,
+        place: SourcePlace,
+        line: OrderLine,
+        ids: &mut SourceIds,
+    ) -> Result<(), AllocError> {
+        match ids.put(&line.id) {
             Ok(()) => Ok(self.lines.push(LineAt { place, line })?),
             Err(error) => {
                 drop(line);
@@ -597,12 +601,12 @@ impl Block {
         }
     }
 
-    // Whether it can't go on with a line of this identifier.
-    fn must_end_before(&self, id: &Id) -> bool {
+    // Whether it can't go on with a line of this identifier. These are the identifiers of its lines.
+    fn must_end_before(&self, id: &Id, ids: &SourceIds) -> bool {
         if self.lines.is_empty() {
             return false;
         }
-        self.lines.len() >= MOST_BLOCK_LINES || self.target.is_same(id) || self.ids.contains(id)
+        self.lines.len() >= MOST_BLOCK_LINES || self.target.is_same(id) || ids.contains(id)
     }
 }
 

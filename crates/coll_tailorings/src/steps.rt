@@ -5,8 +5,8 @@
 //! the last line it is known what all blocks place beside the table.
 
 use coll_lex::{LexFault, MOST_LINES, TextBuf};
-use coll_lookups::{HashKeys, IdSet, WordKeys};
-use coll_meanings::{Ellipses, OrderLines, TableMeanings, put_line, put_range};
+use coll_lookups::{HashKeys, WordKeys};
+use coll_meanings::{Ellipses, OrderLines, SourceIds, TableMeanings, put_line, put_range};
 use coll_sources::{
     Adjustment, Lost, Report, Said, SourceFault, SourceLine, SourcePlace, Tailoring,
 };
@@ -53,7 +53,7 @@ pub(crate) struct Stepped<'t> {
     /// What names mean.
     pub(crate) meanings: TableMeanings<'t>,
     /// What all blocks place.
-    pub(crate) expected: IdSet,
+    pub(crate) expected: SourceIds,
     /// The names of the tables that are tailored, each once.
     pub(crate) copies: Vec<CopyAt>,
     /// The steps, in their order.
@@ -88,7 +88,7 @@ impl<'t> Steps<'t> {
         Steps {
             said: Stepped {
                 meanings,
-                expected: IdSet::new(alloc, keys),
+                expected: SourceIds::new(alloc, keys),
                 copies: Vec::new(alloc),
                 steps: Vec::new(alloc),
             },
@@ -374,7 +374,7 @@ impl<'t> Steps<'t> {
     ) -> Result<(), SourceFault> {
         if self.is_in_block() {
             self.said.meanings.declare_placed(place, id, report)?;
-            self.said.expected.insert(id)?;
+            self.said.expected.put(id)?;
         }
         Ok(())
     }
