@@ -16,12 +16,15 @@ use crate::proper_lines::{section_line, table_line};
 use crate::rules::common_rules;
 use coll_lex::TextBuf;
 use coll_lookups::HashKeys;
-use coll_meanings::{LastNames, Meanings, PlacedLookUp, SourceStatement, lose_statement};
-use coll_sources::{Report, SourceFault, SourceLine, SourcePlace};
+use coll_meanings::{
+    DeclaredRange, LastNames, Meanings, PlacedLookUp, SourceStatement, lose_statement,
+};
+use coll_sources::{NameRange, Report, SourceFault, SourceLine, SourcePlace, spell_name};
 use coll_syntax::{Rules, Statement, TableLine};
 use coll_table::Table;
 use coll_texts::{LoadCause, TableBuilder};
 use std::alloc::Global;
+use std::vec::IntoIter;
 
 /// The table of a source, of which these are the lines, in their order. What is changed is told.
 ///
@@ -50,7 +53,7 @@ fn all_meanings(
     lines: &[SourceLine],
     report: &mut Report,
 ) -> Result<Meanings, SourceFault> {
-    let mut meanings = Meanings::new(alloc, keys);
+    let mut meanings = Meanings::keeping_ranges(alloc, keys);
     match meanings.take_all(lines, report) {
         Ok(()) => Ok(meanings),
         Err(fault) => {
@@ -98,7 +101,8 @@ fn fill(
 {
     let mut meanings = meanings;
     let levels = rules.get().len();
-    match begin_order(builder, rules, meanings.take_declared(), report) {
+    let (declared, ranges) = (meanings.take_declared(), meanings.take_ranges());
+    match begin_order(alloc, builder, rules, declared, ranges, report) {
         Ok(()) => {
             let filled = fill_order(alloc, builder, levels, &meanings, order, report);
             drop(meanings);
@@ -114,12 +118,14 @@ fn fill(
 
 // Declares all of this, and opens the order.
 fn begin_order(
+    alloc: Global,
     builder: &mut TableBuilder,
     rules: Rules,
     declared: Vec<SourceStatement>,
+    ranges: Vec<DeclaredRange>,
     report: &mut Report,
 ) -> Result<(), SourceFault> {
-    declare_all(builder, declared, report)?;
+    declare_all(alloc, builder, declared, ranges, report)?;
     start(builder, rules)
 }
 
@@ -149,14 +155,57 @@ fn fill_order(
     }
 }
 
-// Declares all of this.
+// Declares all of this, each range behind what stands before it.
 fn declare_all(
+    alloc: Global,
     builder: &mut TableBuilder,
     declared: Vec<SourceStatement>,
+    ranges: Vec<DeclaredRange>,
     report: &mut Report,
 ) -> Result<(), SourceFault> {
-    for SourceStatement { place, statement } in declared {
+    let mut left = declared.into_iter();
+    let mut passed = 0usize;
+    for DeclaredRange {
+        place,
+        names,
+        before,
+    } in ranges {
+        declare_some(builder, &mut left, before.saturating_sub(passed), report)?;
+        passed = before;
+        declare_range(alloc, builder, place, &names, report)?;
+    }
+    declare_some(builder, &mut left, usize::MAX, report)
+}
+
+// Declares so many of these, or all that are left.
+fn declare_some(
+    builder: &mut TableBuilder,
+    left: &mut IntoIter<SourceStatement>,
+    count: usize,
+    report: &mut Report,
+) -> Result<(), SourceFault> {
+    for _ in 0..count {
+        let Some(SourceStatement { place, statement }) = left.next() else {
+            return Ok(());
+        };
         put(builder, place, statement, report)?;
+    }
+    Ok(())
+}
+
+// Declares each name of a range as a symbol.
+fn declare_range(
+    alloc: Global,
+    builder: &mut TableBuilder,
+    place: SourcePlace,
+    names: &NameRange,
+    report: &mut Report,
+) -> Result<(), SourceFault> {
+    let mut room = String::new(alloc);
+    for number in names.first..=names.last {
+        spell_name(&mut room, names, number)?;
+        let name = TextBuf::copied(alloc, room.as_str())?;
+        put(builder, place, Statement::Symbol(name), report)?;
     }
     Ok(())
 }

@@ -7,7 +7,7 @@ use crate::orders::Order;
 use coll_lex::TextBuf;
 use coll_lookups::HashKeys;
 use coll_meanings::{
-    Ellipses, Found, Meanings, OrderLines, put_before, put_range, without_symbol_weights,
+    Ellipses, Found, Meanings, NameGuess, OrderLines, put_before, put_range, without_symbol_weights,
 };
 use coll_sources::{Adjustment, Report, Said, SourceFault, SourceLine, SourcePlace};
 use coll_syntax::{Id, OrderLine, SyntaxFault};
@@ -25,7 +25,7 @@ pub(crate) struct Placing {
     open: bool,
     ellipses: Ellipses,
     // Where the name of the next order line is looked for first: names are mostly placed in the order in which they were declared.
-    guess: usize,
+    guess: NameGuess,
 }
 
 impl Placing {
@@ -37,7 +37,7 @@ impl Placing {
             started: false,
             open: false,
             ellipses: Ellipses::new(alloc),
-            guess: 0,
+            guess: NameGuess::new(),
         }
     }
 

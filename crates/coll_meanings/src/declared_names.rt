@@ -10,15 +10,15 @@
 //! The strings of its elements, which it can't be asked for, are kept where the source declares an element. The table stands beside
 //! the names and not in them, so that meanings over none have nothing of a table.
 
-use crate::SourceStatement;
-use crate::known_names::{Alike, KnownNames, Meaning, Taken};
+use crate::known_names::{Alike, KnownNames, Meaning, NameGuess, Taken};
 use crate::placed::Found;
+use crate::{DeclaredRange, SourceStatement};
 use coll_lex::{TextBuf, is_name};
 use coll_lookups::{HashKeys, WordKeys};
 use coll_nodes::{DeclaredItem, MOST_DECLARATIONS};
 use coll_sources::{
     Adjustment, Declaration, Lost, NameRange, Report, Said, SourceFault, SourceLine, SourcePlace,
-    spell_name,
+    name_at, spell_name,
 };
 use coll_syntax::{Id, MOST_ELEMENT_CHARS, OrderLine, Statement};
 use coll_table::Table;
@@ -35,18 +35,24 @@ pub(crate) struct DeclaredNames {
     strings: IndexMap<String, TextBuf, WordKeys>,
     // Whether the strings of the table are still to be kept.
     wants_strings: bool,
+    // What lines of the source declare, one by one, and the ranges of names that stand among that.
     declared: Vec<SourceStatement>,
+    ranges: Vec<DeclaredRange>,
+    // Whether a range may be kept as it is.
+    keeps_ranges: bool,
     alloc: Global,
 }
 
 impl DeclaredNames {
-    /// Nothing is known yet.
-    pub(crate) fn new(alloc: Global, keys: HashKeys) -> DeclaredNames {
+    /// Nothing is known yet. A range of names is kept as it is, where it can be, if that is wanted.
+    pub(crate) fn new(alloc: Global, keys: HashKeys, keeps_ranges: bool) -> DeclaredNames {
         DeclaredNames {
             names: KnownNames::new(alloc, keys),
             strings: IndexMap::with_hasher(alloc, WordKeys::new(keys)),
             wants_strings: true,
             declared: Vec::new(alloc),
+            ranges: Vec::new(alloc),
+            keeps_ranges,
             alloc,
         }
     }
@@ -101,8 +107,9 @@ impl DeclaredNames {
         }
     }
 
-    /// What is found of an identifier here, as `found` tells it. A name is looked for at a guess first, which is the place behind it then.
-    pub(crate) fn found_behind(&self, id: &Id, guess: &mut usize) -> Found {
+    /// What is found of an identifier here, as `found` tells it. A name is looked for at a guess first, which is what came in behind it
+    /// then.
+    pub(crate) fn found_behind(&self, id: &Id, guess: &mut NameGuess) -> Found {
         match id {
             Id::Named(name) => self.names.found_behind(name.get(), guess),
             _ => self.found(id),
@@ -172,6 +179,16 @@ impl DeclaredNames {
         std::mem::replace(&mut self.declared, Vec::new(self.alloc))
     }
 
+    /// Takes the ranges of names that were kept as they are out, in their order.
+    pub(crate) fn take_ranges(&mut self) -> Vec<DeclaredRange> {
+        std::mem::replace(&mut self.ranges, Vec::new(self.alloc))
+    }
+
+    // How many names are declared by lines of the source.
+    fn count(&self) -> usize {
+        self.declared.len().saturating_add(self.names.in_ranges())
+    }
+
     /// Takes what these lines declare.
     pub(crate) fn take_all(
         &mut self,
@@ -237,7 +254,7 @@ impl DeclaredNames {
         name: &TextBuf,
         report: &mut Report,
     ) -> Result<(), SourceFault> {
-        if table.is_none() && self.declared.len() < MOST_DECLARATIONS && is_name(name.get()) {
+        if table.is_none() && self.count() < MOST_DECLARATIONS && is_name(name.get()) {
             return self.first_symbol(place, name, report);
         }
         if self.is_taken(table, place, name, Alike::IfSymbol, report)? {
@@ -270,6 +287,9 @@ impl DeclaredNames {
         report: &mut Report,
     ) -> Result<(), SourceFault> {
         report.count(Adjustment::SymbolRange, place)?;
+        if table.is_none() && self.may_keep_range(range)? {
+            return Ok(self.keep_range(place, range)?);
+        }
         let mut room = String::new(self.alloc);
         for number in range.first..=range.last {
             spell_name(&mut room, range, number)?;
@@ -277,6 +297,31 @@ impl DeclaredNames {
             self.symbol(table, place, &name, report)?;
         }
         Ok(())
+    }
+
+    // Whether a range is kept as it is: all its names can be declared, and none is. They are all alike in whether they are names.
+    fn may_keep_range(&self, range: &NameRange) -> Result<bool, AllocError> {
+        if !self.keeps_ranges
+            || self.count().saturating_add(range.count()) > MOST_DECLARATIONS
+            || !self.names.may_put_range(range)
+        {
+            return Ok(false);
+        }
+        let first = name_at(self.alloc, range, range.first)?;
+        let is_name = is_name(first.get());
+        drop(first);
+        Ok(is_name)
+    }
+
+    // Declares each symbol of a range, which is kept as it is.
+    fn keep_range(&mut self, place: SourcePlace, range: &NameRange) -> Result<(), AllocError> {
+        let names = range.try_copy()?;
+        self.ranges.push(DeclaredRange {
+            place,
+            names,
+            before: self.declared.len(),
+        })?;
+        self.names.put_range(range)
     }
 
     // Declares an element, or makes its name stand for something that is there.
@@ -550,7 +595,7 @@ impl DeclaredNames {
         meaning: Meaning,
         statement: Statement,
     ) -> Result<(), SourceFault> {
-        if self.declared.len() >= MOST_DECLARATIONS {
+        if self.count() >= MOST_DECLARATIONS {
             drop(meaning);
             drop(statement);
             return Err(place.load_fault(LoadCause::Full));

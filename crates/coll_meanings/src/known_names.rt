@@ -2,6 +2,9 @@
 //!
 //! A short name lies in its key, so most take no memory of their own. Names are mostly asked for in the order in which they came in, so
 //! who asks for one after another hands a guess on, and a name that stands there is found without a hash.
+//!
+//! Nearly all symbols of a published table are those of a few ranges. A range none of whose names is known before is kept as it is, so
+//! its names take no memory and aren't hashed: whether it has a name is told by the letters and the digits of that.
 
 ghost use Rattle.std.specs.Prelude.{◌≡◌};
 ghost use Rattle.std.specs.Str.{bytes_eq};
@@ -12,6 +15,7 @@ use crate::name_keys::{NameKey, NameText};
 use crate::placed::Found;
 use coll_lex::TextBuf;
 use coll_lookups::{HashKeys, WordKeys};
+use coll_sources::NameRange;
 use coll_syntax::Id;
 use indexmap::{Equivalent, IndexMap};
 use std::alloc::{AllocError, Global};
@@ -74,10 +78,56 @@ impl Alike {
     }
 }
 
-/// Names, with what is known of each, in the order in which they came in.
+// Most ranges that are kept as they are: each name is looked for in all of them.
+const MOST_RANGES: usize = 64;
+
+// The names of a range, each of them a symbol's, which a line of the source has declared.
+#[derive(Drop)]
+struct KnownRange {
+    names: NameRange,
+    // How many names the ranges before it have.
+    before: usize,
+}
+
+impl KnownRange {
+    // Which of the names of all ranges this one is, if it is one of these.
+    fn place_of(&self, name: &str) -> Option<usize> {
+        let number = self.names.number(name)?;
+        Some(
+            self.before
+                .saturating_add(number.saturating_sub(self.names.first) as usize),
+        )
+    }
+}
+
+/// Where a name is looked for first.
+#[derive(Clone, Copy)]
+pub struct NameGuess {
+    // Among those that stand alone.
+    alone: usize,
+    // In this range.
+    range: usize,
+}
+
+impl NameGuess {
+    /// Nothing is guessed yet.
+    pub fn new() -> NameGuess {
+        NameGuess { alone: 0, range: 0 }
+    }
+}
+
+/// Names, with what is known of each, in the order in which they came in. One that stands alone has an even number, and one of a range an
+/// odd one.
 #[derive(Drop)]
 pub(crate) struct KnownNames {
+    // Those that stand alone.
     names: IndexMap<NameKey, Known, WordKeys>,
+    // Ranges that have no name of another one, or of those that stand alone.
+    ranges: Vec<KnownRange>,
+    // How many names they have.
+    in_ranges: usize,
+    // What is known of each of these.
+    symbol: Known,
 }
 
 impl KnownNames {
@@ -85,41 +135,74 @@ impl KnownNames {
     pub(crate) fn new(alloc: Global, keys: HashKeys) -> KnownNames {
         KnownNames {
             names: IndexMap::with_hasher(alloc, WordKeys::new(keys)),
+            ranges: Vec::new(alloc),
+            in_ranges: 0,
+            symbol: Known {
+                meaning: Meaning::Symbol,
+                by_table: false,
+            },
         }
+    }
+
+    /// How many names the ranges have that are kept as they are.
+    pub(crate) fn in_ranges(&self) -> usize {
+        self.in_ranges
     }
 
     /// What is known of a name.
     pub(crate) fn get(&self, name: &str) -> Option<&Known> {
+        if self.is_in_range(name) {
+            return Some(&self.symbol);
+        }
         self.names.get(NameText { text: name })
     }
 
     /// Whether something is known of a name.
     pub(crate) fn contains(&self, name: &str) -> bool {
-        self.names.contains_key(NameText { text: name })
+        self.is_in_range(name) || self.names.contains_key(NameText { text: name })
     }
 
     /// What is found of a name.
     pub(crate) fn found(&self, name: &str) -> Found {
-        match self.names.get_index_of(NameText { text: name }) {
-            Some(number) => self.found_at(number),
-            None => Found::Unknown,
-        }
+        let mut guess = NameGuess::new();
+        self.found_behind(name, &mut guess)
     }
 
-    /// What is found of a name, as `found` tells it. It is looked for at a guess first, which is the place behind it then.
-    pub(crate) fn found_behind(&self, name: &str, guess: &mut usize) -> Found {
-        match place_by_guess(&self.names, name, *guess) {
-            Some(number) => {
-                *guess = number.wrapping_add(1);
-                self.found_at(number)
+    /// What is found of a name, as `found` tells it. It is looked for at a guess first, which is what came in behind it then.
+    pub(crate) fn found_behind(&self, name: &str, guess: &mut NameGuess) -> Found {
+        if let Some(place) = self.place_in_ranges(name, &mut guess.range) {
+            return found_in_range(place);
+        }
+        match place_by_guess(&self.names, name, guess.alone) {
+            Some(place) => {
+                guess.alone = place.wrapping_add(1);
+                self.found_alone(place)
             }
             None => Found::Unknown,
         }
     }
 
-    // What is found of the name of a number.
-    fn found_at(&self, number: usize) -> Found {
-        match self.names.get_index(number) {
+    /// What is found of a name, as `found` tells it. It is looked for at a guess first, and then behind that; the guess is the name then.
+    pub(crate) fn found_again(&self, name: &str, guess: &mut NameGuess) -> Found {
+        if self.is_at(guess.alone, name) {
+            return self.found_alone(guess.alone);
+        }
+        if let Some(place) = self.place_in_ranges(name, &mut guess.range) {
+            return found_in_range(place);
+        }
+        match place_by_guess(&self.names, name, guess.alone.wrapping_add(1)) {
+            Some(place) => {
+                guess.alone = place;
+                self.found_alone(place)
+            }
+            None => Found::Unknown,
+        }
+    }
+
+    // What is found of the name that stands alone at this place.
+    fn found_alone(&self, place: usize) -> Found {
+        let number = place.saturating_mul(2);
+        match self.names.get_index(place) {
             Some((_, known)) => match known.meaning {
                 Meaning::Symbol => Found::Symbol(number),
                 Meaning::Element => Found::Element(number),
@@ -129,17 +212,64 @@ impl KnownNames {
         }
     }
 
-    /// Whether the name of a number is this one.
-    pub(crate) fn is_at(&self, number: usize, name: &str) -> bool {
-        match self.names.get_index(number) {
+    // Whether the name that stands alone at this place is this one.
+    fn is_at(&self, place: usize, name: &str) -> bool {
+        match self.names.get_index(place) {
             Some((key, _)) => NameText { text: name }.equivalent(key),
             None => false,
         }
     }
 
-    /// Takes room for more names.
-    pub(crate) fn reserve(&mut self, more: usize) -> Result<(), AllocError> {
-        self.names.reserve(more)
+    // Whether a name is one of a range.
+    fn is_in_range(&self, name: &str) -> bool {
+        self.ranges
+            .iter()
+            .any(|range| range.names.number(name).is_some())
+    }
+
+    // Which of the names of all ranges this one is, if it is one of these. It is looked for in the range of a guess first, which is its
+    // range then.
+    fn place_in_ranges(&self, name: &str, guess: &mut usize) -> Option<usize> {
+        if let Some(place) = self.place_in(*guess, name) {
+            return Some(place);
+        }
+        for at in 0..self.ranges.len() {
+            if let Some(place) = self.place_in(at, name) {
+                *guess = at;
+                return Some(place);
+            }
+        }
+        None
+    }
+
+    // Which of the names of all ranges this one is, if the range of a number has it.
+    fn place_in(&self, range: usize, name: &str) -> Option<usize> {
+        self.ranges.get(range)?.place_of(name)
+    }
+
+    /// Whether a range can be kept as it is: nothing is known of any of its names, and looking for that takes no longer than to put them
+    /// in one by one.
+    pub(crate) fn may_put_range(&self, range: &NameRange) -> bool {
+        range.is_hexadecimal()
+            && self.ranges.len() < MOST_RANGES
+            && self.names.len() <= range.count()
+            && !self.ranges.iter().any(|known| known.names.meets(range))
+            && !self
+                .names
+                .keys()
+                .any(|key| range.number(key.text()).is_some())
+    }
+
+    /// Makes each name of a range, of none of which anything is known, that of a symbol.
+    pub(crate) fn put_range(&mut self, range: &NameRange) -> Result<(), AllocError> {
+        let names = range.try_copy()?;
+        let count = names.count();
+        self.ranges.push(KnownRange {
+            names,
+            before: self.in_ranges,
+        })?;
+        self.in_ranges = self.in_ranges.saturating_add(count);
+        Ok(())
     }
 
     /// Gives a name its meaning.
@@ -164,6 +294,9 @@ impl KnownNames {
     /// Makes a name that of a symbol, unless something is known of it. Answers what has declared it, if anything has; from now on a line
     /// of the source has.
     pub(crate) fn mean_symbol(&mut self, name: &TextBuf) -> Result<Option<Taken>, AllocError> {
+        if self.is_in_range(name.get()) {
+            return Ok(Some(self.symbol.taken()));
+        }
         let symbol = Known {
             meaning: Meaning::Symbol,
             by_table: false,
@@ -195,11 +328,19 @@ impl KnownNames {
 
     /// What has declared a name, if something is known of it. From now on a line of the source has.
     pub(crate) fn take_by_source(&mut self, name: &str) -> Option<Taken> {
+        if self.is_in_range(name) {
+            return Some(self.symbol.taken());
+        }
         let known = self.names.get_mut(NameText { text: name })?;
         let taken = known.taken();
         known.by_table = false;
         Some(taken)
     }
+}
+
+// What is found of the name of a range that stands at this place among those of all ranges.
+fn found_in_range(place: usize) -> Found {
+    Found::Symbol(place.saturating_mul(2).saturating_add(1))
 }
 
 // The place of a name, which is looked for at a guess before it is looked up.

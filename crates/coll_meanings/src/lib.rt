@@ -28,11 +28,12 @@ mod table_meanings;
 mod weights;
 
 pub use ellipses::{Ellipses, Run};
+pub use known_names::NameGuess;
 pub use meanings::Meanings;
 pub use order_lines::{OrderLines, put_before, put_line, put_range};
 pub use placed::{Found, Placed};
 pub use source_ids::SourceIds;
-pub use source_statements::{SourceStatement, lose_statement, proper_line};
+pub use source_statements::{DeclaredRange, SourceStatement, lose_statement, proper_line};
 pub use table_meanings::TableMeanings;
 pub use weights::{
     LastNames, PlacedLookUp, TableLookUp, TailoredLookUp, WeightLookUp, without_symbol_weights,

@@ -3,9 +3,10 @@
 //! The rules are those of `declared_names`. What a table declares may be copied into them. They hold no table, so they outlive it, and
 //! may go to another thread.
 
-use crate::SourceStatement;
 use crate::declared_names::DeclaredNames;
+use crate::known_names::NameGuess;
 use crate::placed::Found;
+use crate::{DeclaredRange, SourceStatement};
 use coll_lookups::HashKeys;
 use coll_sources::{Report, SourceFault, SourceLine, SourcePlace};
 use coll_syntax::{Id, OrderLine};
@@ -22,7 +23,15 @@ impl Meanings {
     /// Nothing is declared yet.
     pub fn new(alloc: Global, keys: HashKeys) -> Meanings {
         Meanings {
-            names: DeclaredNames::new(alloc, keys),
+            names: DeclaredNames::new(alloc, keys, false),
+        }
+    }
+
+    /// Nothing is declared yet. Ranges of names are kept as they are, where they can be: `take_ranges` has these, and `take_declared` all
+    /// other declarations.
+    pub fn keeping_ranges(alloc: Global, keys: HashKeys) -> Meanings {
+        Meanings {
+            names: DeclaredNames::new(alloc, keys, true),
         }
     }
 
@@ -46,8 +55,8 @@ impl Meanings {
     }
 
     /// What is found of an identifier, as `found` tells it. A name is looked for at a guess first, where it mostly stands if names are
-    /// asked for in the order in which they were declared. The guess is then the place behind it.
-    pub fn found_behind(&self, id: &Id, guess: &mut usize) -> Found {
+    /// asked for in the order in which they were declared. The guess is then what was declared behind it.
+    pub fn found_behind(&self, id: &Id, guess: &mut NameGuess) -> Found {
         self.names.found_behind(id, guess)
     }
 
@@ -69,6 +78,11 @@ impl Meanings {
     /// Takes the declarations of the source out, in their order.
     pub fn take_declared(&mut self) -> Vec<SourceStatement> {
         self.names.take_declared()
+    }
+
+    /// Takes the ranges of names that were kept as they are out, in their order.
+    pub fn take_ranges(&mut self) -> Vec<DeclaredRange> {
+        self.names.take_ranges()
     }
 
     /// Takes what these lines declare.

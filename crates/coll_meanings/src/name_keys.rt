@@ -29,6 +29,13 @@ impl NameKey {
         let name = name.try_copy()?;
         Ok(NameKey { name })
     }
+
+    /// Lends the text.
+    pub(crate) fn text(&self) -> &str
+        ensures { result.now ≡ bytes_of self.now }
+    {
+        self.name.get()
+    }
 }
 
 impl PartialEq for NameKey {

@@ -35,8 +35,9 @@ pub struct Placed {
 }
 
 impl Placed {
-    /// Nothing is placed. It takes no memory.
-    pub fn new(alloc: Global, _keys: HashKeys) -> Placed {
+    /// Nothing is placed. It takes no memory. Nothing is hashed, so the keys serve nothing.
+    pub fn new(alloc: Global, keys: HashKeys) -> Placed {
+        let _ = keys;
         Placed {
             names: Vec::new(alloc),
             chars: CharSet::new(alloc),

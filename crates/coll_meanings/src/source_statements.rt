@@ -5,7 +5,7 @@ ghost use Rattle.coll_sources.specs.declared.adjustments.Adjustment.TheVariants.
 ghost use Rattle.coll_meanings.specs.LeftOut.{lost_with, name_lost, reweighted, within_limits};
 
 use coll_lex::TextBuf;
-use coll_sources::{Adjustment, Lost, Report, SourceFault, SourcePlace};
+use coll_sources::{Adjustment, Lost, NameRange, Report, SourceFault, SourcePlace};
 use coll_syntax::{Id, OrderLine, Statement};
 use std::alloc::AllocError;
 
@@ -16,6 +16,17 @@ pub struct SourceStatement {
     pub place: SourcePlace,
     /// The statement.
     pub statement: Statement,
+}
+
+/// A range of names, each of which is declared as a symbol.
+#[derive(Drop)]
+pub struct DeclaredRange {
+    /// Where it comes from.
+    pub place: SourcePlace,
+    /// The names.
+    pub names: NameRange,
+    /// How many other declarations stand before it.
+    pub before: usize,
 }
 
 /// Tells that a statement is left out: what it declares, its target, the section that it moves, or what it gives weights.

@@ -22,7 +22,7 @@ impl<'t> TableMeanings<'t> {
     pub fn new(alloc: Global, keys: HashKeys, table: &'t Table) -> TableMeanings<'t> {
         TableMeanings {
             table,
-            names: DeclaredNames::new(alloc, keys),
+            names: DeclaredNames::new(alloc, keys, false),
         }
     }
 

@@ -4,6 +4,7 @@
 //! holds nothing of a table. Where all that is placed is known by what was found of it, each identifier is looked up once.
 
 use crate::declared_names::DeclaredNames;
+use crate::known_names::NameGuess;
 use crate::meanings::Meanings;
 use crate::placed::{Found, Placed};
 use crate::source_ids::SourceIds;
@@ -172,8 +173,8 @@ pub struct PlacedLookUp<'a> {
 }
 
 impl<'a> PlacedLookUp<'a> {
-    /// An order line whose weights name what is placed, and no more than there are levels. What weights of the lines before named last
-    /// is known to stay; what these name is kept there.
+    /// An order line whose weights name what is placed, and no more than there are levels. A name is looked for first where weights of the
+    /// lines before named one last; where these were found is kept there.
     pub fn line(
         &self,
         place: SourcePlace,
@@ -227,30 +228,14 @@ impl<'a> PlacedLookUp<'a> {
 
     // Whether an identifier that a weight names at this place is placed, and stands for nothing else.
     fn id_stays(&self, place: usize, id: &Id, last: &mut LastNames) -> Result<bool, AllocError> {
-        match id {
-            Id::Named(name) => self.name_stays(place, name.get(), last),
-            _ => Ok(self.standing().stays(id)),
-        }
-    }
-
-    // Whether a name that a weight names at this place is placed, and stands for nothing else.
-    fn name_stays(
-        &self,
-        place: usize,
-        name: &str,
-        last: &mut LastNames,
-    ) -> Result<bool, AllocError> {
+        let Id::Named(name) = id else {
+            return Ok(self.standing().stays(id));
+        };
         let known = self.meanings.names().known();
-        let before = last.get(place);
-        if known.is_at(before, name) {
-            return Ok(true);
-        }
-        let mut behind = before.wrapping_add(1);
-        if !self.standing().found_stays(known.found_behind(name, &mut behind)) {
-            return Ok(false);
-        }
-        last.keep(place, behind.wrapping_sub(1))?;
-        Ok(true)
+        let mut guess = last.get(place);
+        let found = known.found_again(name.get(), &mut guess);
+        last.keep(place, guess)?;
+        Ok(self.standing().found_stays(found))
     }
 
     // The same, for any line.
@@ -271,16 +256,13 @@ impl<'a> PlacedLookUp<'a> {
     }
 }
 
-/// The names that weights named last, by their numbers, that are placed and stand for nothing else: most weights name what those of the
-/// line before name, or what was declared behind that.
+/// Where the names of weights are looked for first: most weights name what those of the line before name, or what was declared behind
+/// that.
 #[derive(Drop)]
 pub struct LastNames {
-    // By the place at which a weight names them; no number where none was named.
-    numbers: Vec<usize>,
+    // By the place at which weights name them.
+    guesses: Vec<NameGuess>,
 }
-
-// No number of a name.
-const NO_NUMBER: usize = usize::MAX;
 
 // The place at which a weight of a level names its identifiers, the first of them at 0.
 fn place_of(level: usize, at: usize) -> usize {
@@ -293,22 +275,25 @@ impl LastNames {
     /// None has been named. It takes no memory.
     pub fn new(alloc: Global) -> LastNames {
         LastNames {
-            numbers: Vec::new(alloc),
+            guesses: Vec::new(alloc),
         }
     }
 
-    // The number of the name that was named last at a place.
-    fn get(&self, place: usize) -> usize {
-        self.numbers.get(place).copied().unwrap_or(NO_NUMBER)
+    // Where the name at a place is looked for first.
+    fn get(&self, place: usize) -> NameGuess {
+        match self.guesses.get(place) {
+            Some(guess) => *guess,
+            None => NameGuess::new(),
+        }
     }
 
-    // Keeps the number of the name that was named last at a place.
-    fn keep(&mut self, place: usize, number: usize) -> Result<(), AllocError> {
-        for _ in self.numbers.len()..=place {
-            self.numbers.push(NO_NUMBER)?;
+    // Keeps where the name at a place was found.
+    fn keep(&mut self, place: usize, guess: NameGuess) -> Result<(), AllocError> {
+        for _ in self.guesses.len()..=place {
+            self.guesses.push(NameGuess::new())?;
         }
-        if let Some(last) = self.numbers.get_mut(place) {
-            *last = number;
+        if let Some(last) = self.guesses.get_mut(place) {
+            *last = guess;
         }
         Ok(())
     }

@@ -61,6 +61,94 @@ pub struct NameRange {
     pub last: u32,
 }
 
+impl NameRange {
+    /// A copy.
+    pub fn try_copy(&self) -> Result<NameRange, AllocError>
+        ensures { IfOk result (λ copy. copy ≡ self.now) }
+    {
+        let letters = self.letters.try_copy()?;
+        Ok(NameRange {
+            letters,
+            width: self.width,
+            digits: self.digits,
+            first: self.first,
+            last: self.last,
+        })
+    }
+
+    /// How many names it has.
+    pub fn count(&self) -> usize {
+        (self.last.saturating_sub(self.first) as usize).saturating_add(1)
+    }
+
+    /// Whether its digits are hexadecimal.
+    pub fn is_hexadecimal(&self) -> bool {
+        matches!(self.digits, Digits::Hexadecimal)
+    }
+
+    /// The number of a name, if the range has it. It takes no memory.
+    pub fn number(&self, name: &str) -> Option<u32> {
+        let letters = self.letters.get().len();
+        if name.len() != letters.saturating_add(self.width) {
+            return None;
+        }
+        let (front, digits) = name.as_bytes().split_at_checked(letters)?;
+        if front != self.letters.get().as_bytes() {
+            return None;
+        }
+        let number = upper_number(digits, self.digits)?;
+        if number < self.first || self.last < number {
+            return None;
+        }
+        Some(number)
+    }
+
+    /// Whether a name stands in this range and in another one, both of which have hexadecimal digits. It takes no memory.
+    pub fn meets(&self, other: &NameRange) -> bool {
+        if self.letters.get().len() <= other.letters.get().len() {
+            meets_longer(self, other)
+        } else {
+            meets_longer(other, self)
+        }
+    }
+}
+
+// Whether a name stands in two ranges of hexadecimal digits, where all names of the second have no fewer letters: these have to go on
+// with digits where the letters of the first end.
+fn meets_longer(short: &NameRange, long: &NameRange) -> bool {
+    let Some(more) = behind_letters(
+        long.letters.get().as_bytes(),
+        short.letters.get().as_bytes(),
+    ) else {
+        return false;
+    };
+    if short.width != more.len().saturating_add(long.width) {
+        return false;
+    }
+    let Some(high) = upper_number(more, Digits::Hexadecimal) else {
+        return false;
+    };
+    let high = shifted(high, long.width);
+    let (first, last) = (u64::from(short.first), u64::from(short.last));
+    high.saturating_add(u64::from(long.first)) <= last
+        && first <= high.saturating_add(u64::from(long.last))
+}
+
+// What follows these letters in a text, if it begins with them.
+fn behind_letters<'a>(text: &'a [u8], letters: &[u8]) -> Option<&'a [u8]> {
+    let (front, behind) = text.split_at_checked(letters.len())?;
+    if front == letters { Some(behind) } else { None }
+}
+
+// A number with so many hexadecimal digits behind it, each of them zero.
+fn shifted(number: u32, digits: usize) -> u64 {
+    let mut number = u64::from(number);
+    for _ in 0..digits.min(MOST_DIGITS) {
+        number = number.saturating_mul(16);
+    }
+    number
+}
+
 /// The range from one name to another; none where they have no common form, or the last stands before the first.
 pub(crate) fn name_range(
     alloc: Global,
@@ -107,6 +195,18 @@ fn common_length(first: &str, last: &str) -> usize {
 fn number_of(digits: &[u8], spelled: Digits) -> Option<u32> {
     let mut number = 0u32;
     for digit in digits {
+        number = with_digit(number, *digit, spelled)?;
+    }
+    Some(number)
+}
+
+// The number that digits spell as names of ranges are spelled, in upper case.
+fn upper_number(digits: &[u8], spelled: Digits) -> Option<u32> {
+    let mut number = 0u32;
+    for digit in digits {
+        if *digit >= b'a' {
+            return None;
+        }
         number = with_digit(number, *digit, spelled)?;
     }
     Some(number)
