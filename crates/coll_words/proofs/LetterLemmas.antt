@@ -81,7 +81,7 @@ unfolding elements_of
 alone_first table c rest alone =
     ap (λ (found : Option Element). element_id found c ∷ split element_text (elements_placed table) element_id (beyond_first element_text found) rest) alone
 
-letter_alone : (table : Collation) (c : ℕ) (text rest : List ℕ) → text ≡ c ∷ rest → StandsAlone table c rest → (level : ℕ)
+pub letter_alone : (table : Collation) (c : ℕ) (text rest : List ℕ) → text ≡ c ∷ rest → StandsAlone table c rest → (level : ℕ)
     → text_numbers table level text ≡ numbers_at table level (Char c) ∷ text_numbers table level rest
 letter_alone table c text rest is alone level = ap (text_numbers table level) is ∙ ap (map (numbers_at table level)) (alone_first table c rest alone)
 
@@ -170,7 +170,7 @@ orders_before table level text other later others order alike orders = λ positi
 
 module _ (table : Collation) (level : ℕ) where
   -- the list of a text by the numbers of its first element
-  begin_behind : (text : List ℕ) (ns : List ℕ) (rest : List (List ℕ)) (position : Bool) (gaps : ℕ) → text_numbers table level text ≡ ns ∷ rest
+  pub begin_behind : (text : List ℕ) (ns : List ℕ) (rest : List (List ℕ)) (position : Bool) (gaps : ℕ) → text_numbers table level text ≡ ns ∷ rest
       → list_behind table level position gaps text ≡ listed position gaps (items_of ns ++ flat_map items_of rest)
   begin_behind text ns rest position gaps is = ap (λ (l : List (List ℕ)). listed position gaps (flat_map items_of l)) is
 

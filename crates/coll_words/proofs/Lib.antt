@@ -6,6 +6,7 @@ pub mod LetterLemmas
 pub mod LetterOrders
 pub mod ListedLemmas
 pub mod NeighbourLemmas
+pub mod NumberLemmas
 pub mod OrderedWords
 pub mod PackedOrder
 pub mod ReviewCases

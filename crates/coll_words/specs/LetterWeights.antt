@@ -13,6 +13,7 @@ use Rattle.coll_ranks.specs.declared.text_elements.ElementRow.{ElementRow}
 use Rattle.coll_key.specs.LevelList.{items_of, listed}
 use Rattle.coll_key.specs.TextOrder.{list_order}
 use Rattle.coll_words.specs.ElementMarks.{AreMarks}
+use Rattle.coll_words.specs.FirstNumbers.{AreFirstNumbers}
 use Rattle.coll_words.specs.declared.letter_weights.FirstLetter.{FirstLetter}
 use Rattle.coll_words.specs.declared.letter_weights.LetterRow.{LetterRow}
 use Rattle.coll_words.specs.declared.letter_weights.LetterStep.{LetterStep}
@@ -27,9 +28,10 @@ pub record IsRowOf (table : Collation) (weights : WeightsValue) (c : ℕ) (row :
 abbrev pub IsLetterRow : Collation → WeightsValue → LetterRow → Type 0
 IsLetterRow table weights entry = IsRowOf table weights entry.letter entry.row
 
--- the rows that are kept are those of their characters, and the marks those of the table
+-- the rows that are kept are those of their characters, and so are the numbers of the first level; and the marks are those of the table
 pub record AreLetterWeights (table : Collation) (weights : LetterWeights) : Type 0 where
   pub rows : All (IsLetterRow table weights.made.weights) weights.rows.items
+  pub firsts : AreFirstNumbers table weights.firsts
   pub marks : AreMarks table weights.marks
 
 -- the numbers of a text's elements at a level, element by element

@@ -1,6 +1,7 @@
 pub mod Declaring
 pub mod ElementMarks
 pub mod FirstKeys
+pub mod FirstNumbers
 pub mod KeyedWords
 pub mod LedWords
 pub mod LetterWeights

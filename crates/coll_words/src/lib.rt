@@ -14,13 +14,15 @@
 //!   (`ReviewRuns`), over `listed_words` with the list that is sorted anew (`Neighbours`, `NumberedWords`, `ListedWords`), by
 //!   `staying_words` and `moved_words` as far as its words move (`MovedWords`), and behind a guess of `word_fronts` where many do; the
 //!   words are compared by `word_orders` (`WordOrders`), where it serves by what their `letters` weigh (`letter_weights`,
-//!   `LetterWeights`), as far as no element stands among these (`element_marks`, `ElementMarks`); `review_lines` with what is told of
-//!   a statement (`ReviewLines`), and `reviews` with where a review stands (`Reviews`, `ReviewSteps`), and which statements move no
-//!   word (`Declaring`); what is told is kept by `kept_bytes`, and how far a review got is told by `progress`.
+//!   `LetterWeights`), mostly by the single numbers of these at the first level (`first_numbers`, `FirstNumbers`), as far as no element
+//!   stands among them (`element_marks`, `ElementMarks`); `review_lines` with what is told of a statement (`ReviewLines`), and `reviews`
+//!   with where a review stands (`Reviews`, `ReviewSteps`), and which statements move no word (`Declaring`); what is told is kept by
+//!   `kept_bytes`, and how far a review got is told by `progress`.
 #![tactic(auto)]
 
 mod element_marks;
 mod first_keys;
+mod first_numbers;
 mod kept_bytes;
 mod lent_words;
 mod letter_weights;

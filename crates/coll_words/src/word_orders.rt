@@ -225,6 +225,12 @@ fn order_by_letters(
     requires { Serves (ByLetters letters.now) table.now }
     ensures { IfOk result (λ order. order ≡ order_of (collation table.now) (chars text.now) (chars other.now)) }
 {
+    if let Some(order) = letters
+        .weights
+        .first_order(table, letters.places, text, other)
+    {
+        return Ok(order);
+    }
     match letters
         .weights
         .order(alloc, table, letters.places, text, other)?

@@ -1,0 +1,18 @@
+-- Each step decides, or leaves it to what is left.
+use Rattle.std.proofs.Common.{chars, rules}
+use Rattle.coll_nodes.specs.TableLayout.{collation}
+use Rattle.coll_words.proofs.LetterLemmas.{alike_on, orders_before}
+use Rattle.coll_words.proofs.first_numbers.FirstNumbers.first_order.Goals as goal
+
+pub letters-preserved : goal.letters-preserved
+letters-preserved c = record {
+  left = search rules;
+  right = search rules;
+  same = alike_on (collation c.args.table.now) 0 (chars c.args.text.now) (chars c.args.other.now) (chars c.letters.left.now) (chars c.letters.right.now) (chars c.in-Later.later.now)
+      (chars c.in-Later.others.now) c.letters.invariant.same c.in-Later.ensures.same;
+}
+
+pub returns-in-Decided : goal.returns-in-Decided
+returns-in-Decided c =
+    orders_before (collation c.args.table.now) 0 (chars c.args.text.now) (chars c.args.other.now) (chars c.letters.left.now) (chars c.letters.right.now) c.in-Decided.order c.letters.invariant.same
+    c.in-Decided.ensures

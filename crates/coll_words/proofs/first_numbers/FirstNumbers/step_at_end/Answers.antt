@@ -1,0 +1,12 @@
+-- A text that goes on with a number isn't at its end.
+use Rattle.std.proofs.Common.{chars}
+use Rattle.coll_nodes.specs.TableLayout.{collation}
+use Rattle.coll_words.proofs.NumberLemmas.{number_at_end, numbered_text}
+use Rattle.coll_words.proofs.first_numbers.FirstNumbers.step_at_end.Goals as goal
+
+pub returns : goal.returns
+returns c =
+    let table = collation c.args.table.now in
+    number_at_end table (chars c.args.text.now) (chars c.in-Some.later.now) c.number-number.result c.args.order
+    (numbered_text table c.in-Some.first (chars c.args.text.now) (chars c.in-Some.later.now) c.number-number.result c.in-Some.ensures
+    (c.requires.marks c.in-Some.first (chars c.in-Some.later.now) (c.is_apart.ensures c.if-not-is_apart.false)) c.number-number.ensures c.if-number-eq0.false c.requires.level)

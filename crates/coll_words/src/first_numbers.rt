@@ -1,0 +1,247 @@
+//! What the characters of words weigh at the first level, as plain numbers.
+//!
+//! Nearly all pairs of words are told apart by the first two characters in which they differ, and by these at the first level. So of
+//! each character its number there is kept, if it has a single one, and two words are compared along these numbers alone: at each
+//! character that takes one look-up and no cell of weights. What isn't decided so is left to the levels (`letter_weights`).
+
+ghost use Rattle.std.specs.Prelude.{◌≡◌, ◌<◌, ◌∷◌, [], All, chars, length, true, IfOk, IfSome};
+ghost use Rattle.coll_nodes.specs.TableLayout.{collation};
+ghost use Rattle.coll_ranks.specs.LevelWeights.{level_numbers};
+ghost use Rattle.coll_key.specs.TextOrder.{order_of};
+ghost use Rattle.coll_words.specs.ElementMarks.{AreMarks};
+ghost use Rattle.coll_words.specs.FirstNumbers.{AreFirstNumbers, IsFirstNumber, IsNumberOf, LooksForward};
+ghost use Rattle.coll_words.specs.LetterWeights.{IsLetterRow, IsStep, IsStepAtEnd, OrdersSo};
+
+use crate::element_marks::ElementMarks;
+use crate::letter_weights::{LetterRow, LetterStep, behind_same, number_of, split_first_char};
+use coll_elements::CodePoints;
+use coll_ranks::{ElementRow, LevelWeights, TextWeights, WeightRanks};
+use coll_table::Table;
+use std::alloc::{AllocError, Global};
+use std::cmp::Ordering;
+
+/// A character, and its number at the first level.
+#[derive(Clone, Copy)]
+pub(crate) struct FirstNumber {
+    /// The character.
+    pub letter: char,
+    /// Its number, or 0 where it has none there, or several.
+    pub number: u64,
+}
+
+// What stands at the place of characters that have none.
+const NOBODY: FirstNumber = FirstNumber {
+    letter: '\0',
+    number: 0,
+};
+
+/// The numbers of characters at the first level, by one table as it stood when they were made.
+#[derive(Drop)]
+pub(crate) struct FirstNumbers {
+    // Those of the characters, by their places from 1.
+    numbers: Vec<FirstNumber>,
+    // Whether the first level is looked at from the front.
+    forward: bool,
+}
+
+impl FirstNumbers {
+    /// The numbers of characters that have these rows, in new memory.
+    pub fn new(
+        alloc: Global,
+        table: &Table,
+        made: &TextWeights,
+        rows: &[LetterRow],
+    ) -> Result<FirstNumbers, AllocError>
+        requires { All (IsLetterRow (collation table.now) made.now.weights) rows.now }
+        ensures { IfOk result (AreFirstNumbers (collation table.now)) }
+    {
+        let forward = looks_forward(table);
+        let numbers = numbers_of_rows(alloc, table, made, rows)?;
+        Ok(FirstNumbers { numbers, forward })
+    }
+
+    /// The order of two texts, if single numbers of the first level tell it. The marks are those of the table. It takes no memory.
+    #[inline(always)]
+    pub fn order(
+        &self,
+        table: &Table,
+        places: &CodePoints,
+        marks: &ElementMarks,
+        text: &str,
+        other: &str,
+    ) -> Option<Ordering>
+        requires numbers { AreFirstNumbers (collation table.now) self.now }
+        requires marks { AreMarks (collation table.now) marks.now }
+        ensures { IfSome result (λ order. order ≡ order_of (collation table.now) (chars text.now) (chars other.now)) }
+    {
+        if !self.forward {
+            return None;
+        }
+        let order = self.first_order(table, places, marks, text, other)?;
+        if order.is_ne() {
+            return Some(order);
+        }
+        None
+    }
+
+    // The order of two texts at the first level, which is looked at from the front, if single numbers tell it.
+    #[inline(always)]
+    fn first_order(
+        &self,
+        table: &Table,
+        places: &CodePoints,
+        marks: &ElementMarks,
+        text: &str,
+        other: &str,
+    ) -> Option<Ordering>
+        requires numbers { AreFirstNumbers (collation table.now) self.now }
+        requires marks { AreMarks (collation table.now) marks.now }
+        requires level { 0 < length (collation table.now).rules }
+        ensures { IfSome result (OrdersSo (collation table.now) 0 (chars text.now) (chars other.now)) }
+    {
+        let (mut left, mut right) = behind_same(table, 0, marks, text, other);
+        'letters: loop {
+            match self.step(table, places, marks, left, right) {
+                LetterStep::Decided(order) => return Some(order),
+                LetterStep::Later(later, others) => {
+                    left = later;
+                    right = others;
+                }
+                LetterStep::Unknown => return None,
+            }
+        }
+    }
+
+    // A step along two texts.
+    #[inline(always)]
+    fn step<'a, 'b>(
+        &self,
+        table: &Table,
+        places: &CodePoints,
+        marks: &ElementMarks,
+        left: &'a str,
+        right: &'b str,
+    ) -> LetterStep<'a, 'b>
+        requires numbers { AreFirstNumbers (collation table.now) self.now }
+        requires marks { AreMarks (collation table.now) marks.now }
+        requires level { 0 < length (collation table.now).rules }
+        ensures { IsStep (collation table.now) 0 (chars left.now) (chars right.now) result }
+    {
+        let Some((first, later)) = split_first_char(left) else {
+            return self.step_at_end(table, places, marks, right, Ordering::Less);
+        };
+        let Some((second, others)) = split_first_char(right) else {
+            return self.step_at_end(table, places, marks, left, Ordering::Greater);
+        };
+        if !marks.is_apart(first, later) {
+            return LetterStep::Unknown;
+        }
+        if !marks.is_apart(second, others) {
+            return LetterStep::Unknown;
+        }
+        if first == second {
+            return LetterStep::Later(later, others);
+        }
+        let number = self.number(table, places, first);
+        if number == 0 {
+            return LetterStep::Unknown;
+        }
+        let other_number = self.number(table, places, second);
+        if other_number == 0 {
+            return LetterStep::Unknown;
+        }
+        let order = number.cmp(&other_number);
+        if order.is_ne() {
+            return LetterStep::Decided(order);
+        }
+        LetterStep::Later(later, others)
+    }
+
+    // The same where one text has ended: where this one goes on with a number, the order is this.
+    #[inline(always)]
+    fn step_at_end<'a, 'b>(
+        &self,
+        table: &Table,
+        places: &CodePoints,
+        marks: &ElementMarks,
+        text: &str,
+        order: Ordering,
+    ) -> LetterStep<'a, 'b>
+        requires numbers { AreFirstNumbers (collation table.now) self.now }
+        requires marks { AreMarks (collation table.now) marks.now }
+        requires level { 0 < length (collation table.now).rules }
+        ensures { IsStepAtEnd (collation table.now) 0 (chars text.now) order result }
+    {
+        let Some((first, later)) = split_first_char(text) else {
+            return LetterStep::Unknown;
+        };
+        if !marks.is_apart(first, later) {
+            return LetterStep::Unknown;
+        }
+        let number = self.number(table, places, first);
+        if number == 0 {
+            return LetterStep::Unknown;
+        }
+        LetterStep::Decided(order)
+    }
+
+    // The number of a character, or 0 where no single one is known. Its place is only guessed, so what stands there is looked at.
+    #[inline(always)]
+    fn number(&self, _table: &Table, places: &CodePoints, letter: char) -> u64
+        requires { AreFirstNumbers (collation _table.now) self.now }
+        ensures { IsNumberOf (collation _table.now) letter result }
+    {
+        let place = places.get(letter) as usize;
+        let numbers: &[FirstNumber] = &self.numbers;
+        if place < numbers.len() {
+            let kept = numbers[place];
+            if kept.letter == letter {
+                return kept.number;
+            }
+        }
+        0
+    }
+}
+
+// The numbers of characters that have these rows, behind one that is nobody's.
+fn numbers_of_rows(
+    alloc: Global,
+    _table: &Table,
+    made: &TextWeights,
+    rows: &[LetterRow],
+) -> Result<Vec<FirstNumber>, AllocError>
+    requires { All (IsLetterRow (collation _table.now) made.now.weights) rows.now }
+    ensures { IfOk result (λ numbers. All (IsFirstNumber (collation _table.now)) numbers.items) }
+{
+    let weights = made.weights();
+    let at_first = weights.at_level(0);
+    let mut numbers = Vec::with_capacity(alloc, rows.len().saturating_add(1))?;
+    numbers.push(NOBODY)?;
+    for kept in rows {
+        let number = single_number(at_first, kept.row);
+        let letter = kept.letter;
+        numbers.push(FirstNumber { letter, number })?;
+    }
+    Ok(numbers)
+}
+
+// The number of a row, or 0 where it has none, or several.
+fn single_number(at_level: LevelWeights<'_>, row: ElementRow) -> u64
+    ensures { 0 < result → level_numbers at_level.entry row ≡ result ∷ [] }
+{
+    match at_level.ranks(row) {
+        WeightRanks::Ignored => 0,
+        WeightRanks::Single(rank) => number_of(rank, at_level.added(row)),
+        WeightRanks::Several(_) => 0,
+    }
+}
+
+// Whether the first level of a table is looked at from the front.
+fn looks_forward(table: &Table) -> bool
+    ensures { result ≡ true → LooksForward (collation table.now).rules }
+{
+    match table.rules().split_first() {
+        Some((rule, _)) => !rule.backward,
+        None => false,
+    }
+}
