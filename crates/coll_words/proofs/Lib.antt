@@ -1,9 +1,10 @@
 pub mod DeclaredLemmas
 pub mod FirstLemmas
-pub mod KeyedAnew
+pub mod KeptLemmas
 pub mod LeadLemmas
 pub mod LetterLemmas
 pub mod LetterOrders
+pub mod ListedKeyLemmas
 pub mod ListedLemmas
 pub mod NeighbourLemmas
 pub mod NumberLemmas
@@ -13,6 +14,7 @@ pub mod ReviewCases
 pub mod ReviewLemmas
 pub mod SeenWords
 pub mod SortCases
+pub mod SortedAgain
 pub mod SortedLemmas
 pub mod StoredLemmas
 pub mod TextWords

@@ -1,51 +1,25 @@
 -- A list of words that is led, keyed and sorted, member by member.
-use Rattle.std.proofs.Common.{◌≡◌, ◌≢◌, ℕ, zero, suc, ◌+◌, ◌-◌, ◌<◌, ◌≤◌, ◌==◌, Bool, false, if◌then◌else◌, List, [], ◌∷◌, ◌++◌, length, map, take, drop, get_or, set, Option}
-use Rattle.std.proofs.Common.{eq-eqb, refl, sym, ap, subst, ◌∙◌, arith, append-nil, append_assoc, get_or-set_same, get_or-set_other}
-use Rattle.std.specs.List.Sorted.{IsPermutation, IsSortedBy, IsSorted, IsSortedWithin}
+use Rattle.std.proofs.Common.{◌≡◌, ◌≢◌, ℕ, zero, suc, ◌+◌, ◌-◌, ◌<◌, ◌≤◌, ◌==◌, Bool, false, if◌then◌else◌, List, [], ◌∷◌, ◌++◌, length, take, drop, get_or, set, Option}
+use Rattle.std.proofs.Common.{eq-eqb, refl, sym, ap, subst, ◌∙◌, arith, append-nil, append_assoc}
+use Rattle.std.specs.List.Sorted.{IsPermutation, IsSorted, IsSortedWithin}
 use Rattle.std.proofs.lemmas.List.Sorted.{IsPermutation-refl}
-use Rattle.std.specs.Ordering.{is_lt, nat_cmp, ordering_then}
-use Rattle.std.proofs.lemmas.List.{length-map, map-append, get_or-map, map-set, set-get_or, set-append_right, take_more, length-take, length-drop, get_or-drop, get_or-append_right, take_all, drop_all}
+use Rattle.std.specs.Ordering.{is_lt}
+use Rattle.std.proofs.lemmas.List.{length-map, get_or-map, set-append_right, take_more, length-take, length-drop, get_or-drop, get_or-append_right, take_all, drop_all}
 use Rattle.std.specs.Io.KnownBytes.{Appends}
 use Rattle.std.specs.List.{flat_map}
 use Rattle.std.proofs.lemmas.Bool.{eqb-true, eqb-false, ne_eqb}
 use Rattle.coll_devices.specs.Devices.{AppendsPrefix}
 use Rattle.coll_elements.proofs.Tests.{by_test}
 use Rattle.coll_nodes.specs.Table.{Collation}
-use Rattle.coll_nodes.specs.WellFormed.{IsWellFormed}
-use Rattle.coll_key.specs.TextOrder.{list_order}
 use Rattle.coll_texts.proofs.PrintedParts.{HasWritten, left_begins, written_more, written_prefix}
-use Rattle.coll_words.specs.KeyedWords.{KeyedWord, IsKeyed, texts_of}
 use Rattle.coll_words.specs.MovedWords.{IsOrderedTo}
-use Rattle.coll_words.specs.ListedWords.{AreListedByKeys, IsSortedAnew, all_numbered, led_by, newly_beside, numbered_of, unkeyed}
+use Rattle.coll_words.specs.ListedWords.{IsSortedAnew, all_numbered, led_by, newly_beside, numbered_of}
 use Rattle.coll_words.specs.Neighbours.{NumberedWord, WordPair}
-use Rattle.coll_words.specs.NumberedWords.{line_order, numbered_from}
+use Rattle.coll_words.specs.NumberedWords.{line_order}
 use Rattle.coll_words.specs.ReviewLines.{joined_line}
 use Rattle.coll_words.specs.declared.listed_words.ListedWord.{ListedWord}
 use Rattle.coll_words.proofs.NeighbourLemmas.{numbered_still}
-use Rattle.coll_words.proofs.SortedLemmas.{keys_order}
-
--- Sorted by keys.
-
--- by its key, or where that is the same by its line, a word comes first
-abbrev pub has_less_line : ListedWord → ListedWord → Bool
-has_less_line listed other = is_lt (ordering_then (list_order listed.word.key other.word.key) (nat_cmp listed.line other.line))
-
--- words that are sorted by the keys of a table are sorted by it
-pub listed_in_order : (table : Collation) → IsWellFormed table → (list : List ListedWord) → AreListedByKeys table list → IsSortedBy has_less_line list
-    → IsSorted (line_order table) (all_numbered list)
-listed_in_order table well list keyed sorted = λ k d low high.
-    let long = length-map list numbered_of in
-    let none : ListedWord = get_or list k (get_or list k (from_number d)) in
-    let first = get_or-map numbered_of list k none d (omega (arith, high, long)) in
-    let second = get_or-map numbered_of list (k + 1) none d (omega (arith, high, long)) in
-    ap (λ (word : NumberedWord). is_lt (line_order table word (get_or (all_numbered list) k d))) second
-    ∙ ap (λ (word : NumberedWord). is_lt (line_order table (numbered_of (get_or list (k + 1) none)) word)) first
-    ∙ sym (ap (λ o. is_lt (ordering_then o (nat_cmp (get_or list (k + 1) none).line (get_or list k none).line)))
-    (keys_order table well (get_or list (k + 1) none).word (get_or list k none).word (keyed (k + 1) none (omega (arith, high, long))) (keyed k none (omega (arith, high, long)))))
-    ∙ sorted k none low (omega (arith, high, long))
-  where
-    from_number : NumberedWord → ListedWord
-    from_number word = record { line = word.line; leader = 0; word = record { text = word.text; key = [] } }
+use Rattle.coll_words.proofs.OrderedWords.{same_member}
 
 -- Led by the word before.
 
@@ -111,9 +85,11 @@ module _ (before now : List ListedWord) (count leader : ℕ) (so_far : LedSoFar 
         last = sym (ap (last_line 0) more ∙ last_behind 0 (take count before) listed);
       }
 
--- lists of the same words are as long
-pub same_length : (list other : List ListedWord) → all_numbered list ≡ all_numbered other → length list ≡ length other
-same_length list other same = omega (arith, length-map list numbered_of, length-map other numbered_of, ap length same)
+-- the same of a word as it stands in the list
+pub one_more_led_at : (before now : List ListedWord) (count leader : ℕ) → LedSoFar before now count leader → (d : ListedWord) → count < length before → count < length now
+    → LedSoFar before (set now count (record (get_or now count d) { leader = leader })) (count + 1) (get_or now count d).line
+one_more_led_at before now count leader so_far d within now_within =
+    one_more_led before now count leader so_far (get_or now count d) within (same_member now count d (get_or now count d) now_within)
 
 -- so many of a list and of what stands behind it
 pub take_front : (len : ℕ) (list rest : List ListedWord) → length list ≡ len → take len (list ++ rest) ≡ list
@@ -130,8 +106,6 @@ module _ (table : Collation) (old new : List ListedWord) where
   -- a list that is in order still
   pub anew_in_order : new ≡ led_by zero old → IsSorted (line_order table) (all_numbered old) → IsSortedAnew table old new
   anew_in_order led ordered = record {
-    from = old;
-    same = refl;
     moved = subst (IsPermutation (led_by zero old)) (sym led) (IsPermutation-refl (led_by zero old));
     ordered = subst (IsSorted (line_order table)) (sym (ap all_numbered led ∙ numbered_still zero old)) ordered;
   }
@@ -255,74 +229,46 @@ module _ (list : List ListedWord) (place : ℕ) (first next : ListedWord) (above
       ∙ ap (λ (word : NumberedWord). is_lt (line_order table (numbered_of next) word)) one ∙ ordered)
       (λ off. let other : k + 1 ≢ place = eqb-false (k + 1) place off in sorted k d low (omega (arith, high, other)))
 
--- Numbered one after another.
+module _ (list : List ListedWord) (place : ℕ) (d e : ListedWord) (above : 0 < place) (within : place < length list) where
+  abbrev pub first_at : ListedWord
+  first_at = get_or list (place - 1) d
 
-numbered_behind : (n : ℕ) (words : List (List ℕ)) (word : List ℕ) → numbered_from n (words ++ word ∷ []) ≡ numbered_from n words ++ record { line = n + length words; text = word } ∷ []
-numbered_behind n [] word = ap (λ (line : ℕ). record { line = line; text = word } ∷ []) (plus_none n)
-  where
-    plus_none : (n : ℕ) → n ≡ n + 0
-    plus_none n = omega arith
-numbered_behind n (first ∷ words) word =
-    ap (λ (l : List NumberedWord). record { line = n; text = first } ∷ l) (numbered_behind (suc n) words word
-    ∙ ap (λ (line : ℕ). numbered_from (suc n) words ++ record { line = line; text = word } ∷ []) (shifted n (length words)))
-  where
-    shifted : (n k : ℕ) → suc n + k ≡ n + suc k
-    shifted n k = omega arith
+  abbrev pub next_at : ListedWord
+  next_at = get_or list place e
 
-pub same_words : (words : List KeyedWord) → map (λ (word : KeyedWord). word) words ≡ words
-same_words [] = refl
-same_words (word ∷ words) = ap (λ (l : List KeyedWord). word ∷ l) (same_words words)
+  first_is : first_at ≡ get_or list (place - 1) first_at
+  first_is = same_member list (place - 1) d first_at (omega (arith, within))
 
--- of these words so many are listed
-pub record ListedSoFar (words : List KeyedWord) (list : List ListedWord) : Type 0 where
-  pub lines : all_numbered list ≡ numbered_from 1 (texts_of words)
-  pub words_are : map (λ (listed : ListedWord). listed.word) list ≡ words
+  next_is : next_at ≡ get_or list place next_at
+  next_is = same_member list place e next_at within
 
-module _ (words : List KeyedWord) (list : List ListedWord) (so_far : ListedSoFar words list) where
-  pub as_many_listed : length list ≡ length words
-  as_many_listed = omega (arith, length-map list (λ (listed : ListedWord). listed.word), ap length so_far.words_are)
+  -- the same of two words as they stand in the list
+  pub order_on_at : (table : Collation) → is_lt (line_order table (numbered_of next_at) (numbered_of first_at)) ≡ false
+      → IsSortedWithin (λ x y. is_lt (line_order table x y)) (all_numbered list) 0 place → IsSortedWithin (λ x y. is_lt (line_order table x y)) (all_numbered list) 0 (place + 1)
+  order_on_at table ordered sorted = order_on list place first_at next_at above within first_is next_is table ordered sorted
 
-  -- one word more
-  pub one_more_listed : (word : KeyedWord) (line leader : ℕ) → line ≡ length list + 1 → ListedSoFar (words ++ word ∷ []) (list ++ record { line = line; leader = leader; word = word } ∷ [])
-  one_more_listed word line leader is =
-      let listed : ListedWord = record { line = line; leader = leader; word = word } in
-      let number : line ≡ 1 + length (texts_of words) = omega (arith, is, as_many_listed, length-map words (λ (word : KeyedWord). word.text)) in
-      record {
-        lines =
-            map-append numbered_of list (listed ∷ [])
-            ∙ ap (λ (l : List NumberedWord). l ++ numbered_of listed ∷ []) so_far.lines
-            ∙ ap (λ (n : ℕ). numbered_from 1 (texts_of words) ++ record { line = n; text = word.text } ∷ []) number
-            ∙ sym (numbered_behind 1 (texts_of words) word.text)
-            ∙ ap (numbered_from 1) (sym (map-append (λ (word : KeyedWord). word.text) words (word ∷ [])));
-        words_are = map-append (λ (listed : ListedWord). listed.word) list (listed ∷ []) ∙ ap (λ (l : List KeyedWord). l ++ word ∷ []) so_far.words_are;
-      }
+  pub counted_new_at : (count : ℕ) → CountedSoFar list place count → first_at.line ≢ next_at.leader → CountedSoFar list (place + 1) (count + 1)
+  counted_new_at count so_far other = counted_new list place first_at next_at above within first_is next_is count so_far other
 
--- Keyed anew.
+  pub counted_old_at : (count : ℕ) → CountedSoFar list place count → first_at.line ≡ next_at.leader → CountedSoFar list (place + 1) count
+  counted_old_at count so_far same = counted_old list place first_at next_at above within first_is next_is count so_far same
 
-abbrev numbered : ℕ → List ℕ → NumberedWord
-numbered line text = record { line = line; text = text }
+  abbrev later_at : List WordPair
+  later_at = newly_beside (drop (place + 1 - 1) list)
 
--- so many words of a list are keyed, and all are the same words
-pub record KeyedSoFar (table : Collation) (before now : List ListedWord) (count : ℕ) : Type 0 where
-  pub same : map unkeyed now ≡ map unkeyed before
-  pub keyed : (k : ℕ) (d : ListedWord) → k < count → IsKeyed table (get_or now k d).word
+  pub joined_new_at : (all : List WordPair) (left : ℕ) (a b c : Option (List ℕ)) → left ≢ 0 → first_at.line ≢ next_at.leader
+      → HasWritten joined_line all (take left (newly_beside (drop (place - 1) list))) a b → Appends b c (joined_line (numbered_of first_at, numbered_of next_at))
+      → HasWritten joined_line all (take (left - 1) later_at) a c
+  joined_new_at all left a b c none other so_far sent = joined_new list place first_at next_at above within first_is next_is all left a b c none other so_far sent
 
-module _ (table : Collation) (before now : List ListedWord) (count : ℕ) (so_far : KeyedSoFar table before now count) (listed : ListedWord) (within : count < length now) where
-  pub one_more_keyed : listed ≡ get_or now count listed → (word : KeyedWord) → word.text ≡ listed.word.text → IsKeyed table word
-      → KeyedSoFar table before (set now count (record listed { word = word })) (count + 1)
-  one_more_keyed is word same keyed = record {
-    same =
-        map-set unkeyed now count (record listed { word = word })
-        ∙ ap (set (map unkeyed now) count) (ap (λ (text : List ℕ). (numbered listed.line text, listed.leader)) same
-        ∙ ap unkeyed is ∙ sym (get_or-map unkeyed now count listed (unkeyed listed) within))
-        ∙ set-get_or (map unkeyed now) count (unkeyed listed) ∙ so_far.same;
-    keyed = λ k d below.
-        by_test (λ (b : Bool). IsKeyed table (get_or (set now count (record listed { word = word })) k d).word) (k == count)
-        (λ on. subst (λ (n : ℕ). IsKeyed table (get_or (set now count (record listed { word = word })) n d).word) (sym (eqb-true k count on))
-        (subst (λ (l : ListedWord). IsKeyed table l.word) (sym (get_or-set_same now count (record listed { word = word }) d within)) keyed))
-        (λ off. let other : k ≢ count = eqb-false k count off in
-        subst (λ (l : ListedWord). IsKeyed table l.word) (sym (get_or-set_other now count k (record listed { word = word }) d other)) (so_far.keyed k d (omega (arith, below, other))));
-  }
+  pub joined_old_at : (all : List WordPair) (left : ℕ) (a b : Option (List ℕ)) → first_at.line ≡ next_at.leader
+      → HasWritten joined_line all (take left (newly_beside (drop (place - 1) list))) a b → HasWritten joined_line all (take left later_at) a b
+  joined_old_at all left a b same so_far = joined_old list place first_at next_at above within first_is next_is all left a b same so_far
+
+  pub joined_stops_at : (all : List WordPair) (left : ℕ) (a b c : Option (List ℕ)) → left ≢ 0 → first_at.line ≢ next_at.leader
+      → HasWritten joined_line all (take left (newly_beside (drop (place - 1) list))) a b → AppendsPrefix b c (joined_line (numbered_of first_at, numbered_of next_at))
+      → AppendsPrefix a c (flat_map joined_line all)
+  joined_stops_at all left a b c none other so_far stops = joined_stops list place first_at next_at above within first_is next_is all left a b c none other so_far stops
 
 -- where as many words are in order as there are, all are
 pub whole_ordered : (table : Collation) (items list : List ListedWord) (count : ℕ) → list ≡ items → count ≡ length items → IsOrderedTo table (all_numbered list) count

@@ -198,7 +198,7 @@ down_to left put words put_now words_now so_far few = record {
 }
 
 -- a member within a list, whatever stands for none
-same_member : (list : List ListedWord) (n : ℕ) (d e : ListedWord) → n < length list → get_or list n d ≡ get_or list n e
+pub same_member : (list : List ListedWord) (n : ℕ) (d e : ListedWord) → n < length list → get_or list n d ≡ get_or list n e
 same_member [] n d e within = absurd (omega (arith, within))
 same_member (first ∷ list) zero d e within = refl
 same_member (first ∷ list) (suc n) d e within = same_member list n d e (omega (arith, within))
@@ -214,6 +214,17 @@ pub stays_at : (table : Collation) (list : List ListedWord) (place n : ℕ) (lis
     → before table listed next ≡ false → before table (get_or list n d) next ≡ false
 stays_at table list place n listed next d within here is apart =
     ap (λ (l : ListedWord). before table l next) (ap (λ (k : ℕ). get_or list k d) here ∙ same_member list place d listed within ∙ sym is) ∙ apart
+
+-- the same of a word as it stands in the list
+pub put_here : (table : Collation) (list : List ListedWord) (place : ℕ) (e next d : ListedWord) → ((one other : ListedWord) → before table one other ≡ true → before table other one ≡ false)
+    → place < length list → before table (get_or list place e) next ≡ true → before table next (get_or list place d) ≡ false
+put_here table list place e next d asymmetric within less =
+    put_at table list place (get_or list place e) next d asymmetric within (same_member list place e (get_or list place e) within) less
+
+pub stays_here : (table : Collation) (list : List ListedWord) (place n : ℕ) (e next d : ListedWord) → place < length list → n ≡ place → before table (get_or list place e) next ≡ false
+    → before table (get_or list n d) next ≡ false
+stays_here table list place n e next d within here apart =
+    stays_at table list place n (get_or list place e) next d within here (same_member list place e (get_or list place e) within) apart
 
 -- the member behind so many others
 at_end : (front : List ListedWord) (first : ListedWord) (others : List ListedWord) (n : ℕ) (d : ListedWord) → n ≡ length front → get_or (front ++ first ∷ others) n d ≡ first
@@ -330,10 +341,10 @@ comes_once table well listed other less =
     (ap is_lt (sym (by_keys listed other)) ∙ less)
   where
     keyed : ListedWord → ListedWord → Ordering
-    keyed a b = ordering_then (list_order (key_of table a.word.text) (key_of table b.word.text)) (nat_cmp a.line b.line)
+    keyed a b = ordering_then (list_order (key_of table (numbered_of a).text) (key_of table (numbered_of b).text)) (nat_cmp a.line b.line)
 
     by_keys : (a b : ListedWord) → line_order table (numbered_of a) (numbered_of b) ≡ keyed a b
-    by_keys a b = ap (λ (o : Ordering). ordering_then o (nat_cmp a.line b.line)) (sym (keys_in_order table well a.word.text b.word.text))
+    by_keys a b = ap (λ (o : Ordering). ordering_then o (nat_cmp a.line b.line)) (sym (keys_in_order table well (numbered_of a).text (numbered_of b).text))
 
     total : IsTotalOrder (λ (a b : NumberedWord). ordering_then (list_order (key_of table a.text) (key_of table b.text)) (nat_cmp a.line b.line))
     total = then_total (on_total (λ (a : NumberedWord). key_of table a.text) nat_list_cmp_total) (on_total (λ (a : NumberedWord). a.line) nat_cmp_total)

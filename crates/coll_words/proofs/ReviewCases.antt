@@ -1,5 +1,5 @@
 -- How a review ends, by what reading its words, reading its delta file and writing answered.
-use Rattle.std.proofs.Common.{◌≡◌, inr, ⊎_elim, ℕ, zero, ◌+◌, ◌≤◌, ◌==◌, ◌&&◌, Bool, true, false, if◌then◌else◌, List, [], ◌++◌, length, Option, Some, Result, Ok, Err}
+use Rattle.std.proofs.Common.{◌≡◌, inl, inr, ⊎_elim, ℕ, zero, ◌+◌, ◌≤◌, ◌==◌, ◌&&◌, Bool, true, false, if◌then◌else◌, List, [], ◌++◌, length, Option, Some, Result, Ok, Err}
 use Rattle.std.proofs.Common.{refl, sym, ap, subst, ◌∙◌, arith, append-nil, eq-eqb}
 use Rattle.std.specs.Prelude.{IfErr}
 use Rattle.std.proofs.lemmas.Bool.{ne_eqb}
@@ -9,19 +9,19 @@ use Rattle.coll_devices.specs.Devices.{AppendsPrefix, Sends, raised}
 use Rattle.coll_nodes.specs.Table.{Collation}
 use Rattle.coll_nodes.specs.TableLayout.{collation}
 use Rattle.coll_bench.specs.BatchOutcome.{after_delta, statements_of}
-use Rattle.coll_bench.specs.BatchReading.{DeltaFails}
+use Rattle.coll_bench.specs.BatchReading.{DeltaFails, starved_in}
 use Rattle.coll_bench.specs.BatchRuns.{ending_of}
 use Rattle.coll_bench.specs.Faults.{fault_number}
 use Rattle.coll_bench.specs.Serving.{write_failed}
 use Rattle.coll_bench.specs.declared.faults.RunFault.{RunFault}
 use Rattle.coll_words.specs.ListedWords.{all_numbered, numbered_of}
+use Rattle.coll_words.specs.Neighbours.{NumberedWord}
 use Rattle.coll_words.specs.NumberedWords.{AreInOrder, numbered_from}
 use Rattle.coll_words.specs.ReviewLines.{review_line}
 use Rattle.coll_words.specs.ReviewRuns.{CountsReadingOf, ReviewRanTo, ReviewRuns, ReviewsText}
 use Rattle.coll_words.specs.ReviewSteps.{ListsWordsOf, ReachesAll, WritesReview, review_bytes, standing_of}
 use Rattle.coll_words.specs.Reviews.{ArePut, Standing}
 use Rattle.coll_words.specs.WordReading.{ReadingFails}
-use Rattle.coll_words.specs.declared.listed_words.ListedWord.{ListedWord}
 use Rattle.coll_words.specs.declared.reviews.Review.{Review}
 use Rattle.coll_words.proofs.ReviewLemmas.{numbered_lines, length_numbered, in_order_still, all_counted}
 use Rattle.coll_words.proofs.SortCases.{appended}
@@ -37,6 +37,10 @@ module _ (begun now : Review) (delta delta_after taken taken_after : Option (Lis
 -- the fault of the only input is that of an input with another number
 pub from_first : (left left_after : Option (List ℕ)) (ended : RunFault) → ended.input ≡ 0 → ReadingFails left left_after ended → ReadingFails left left_after (record ended { input = 0 })
 from_first left left_after ended first fails = subst (λ (n : ℕ). ReadingFails left left_after (record ended { input = n })) first fails
+
+-- memory was refused behind the words
+pub starved_reads : (left left_after : Option (List ℕ)) (ended : RunFault) → ended ≡ starved_in 2 → ReadingFails left left_after (record ended { input = 0 })
+starved_reads left left_after ended is = subst (λ (r : RunFault). ReadingFails left left_after (record r { input = 0 })) (sym is) (λ text e. inl refl)
 
 -- Failed reads.
 
@@ -78,8 +82,8 @@ module _ (table : Collation) (delta delta_after words words_after taken : Option
     subst (λ (n : ℕ). ReviewRanTo n table delta_text words_text delta_after words_after [] ended) (sym input) (refl, fails words_text f),
   )
 
-  module _ (list : List ListedWord) (begun : Review) (lists : ListsWordsOf table words list)
-      (stands : standing_of begun ≡ record { table = table; sorted = all_numbered list; count = zero }) (none : begun.told.bytes.items ≡ []) where
+  module _ (list : List NumberedWord) (begun : Review) (lists : ListsWordsOf table words list)
+      (stands : standing_of begun ≡ record { table = table; sorted = list; count = zero }) (none : begun.told.bytes.items ≡ []) where
     same_table : collation begun.table ≡ table
     same_table = ap (λ (s : Standing). s.table) stands
 
@@ -105,7 +109,7 @@ module _ (table : Collation) (delta delta_after words words_after taken : Option
           subst (λ (t : Collation). after_delta 1 t delta_text ≡ Ok after) same_table at.0,
           listed.1,
           (
-            all_numbered list,
+            list,
             standing_of now,
             led.0,
             listed.2,

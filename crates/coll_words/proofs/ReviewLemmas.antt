@@ -19,13 +19,15 @@ use Rattle.coll_bench.specs.Replies.{history_line}
 use Rattle.coll_bench.specs.declared.faults.RunFault.{RunFault}
 use Rattle.coll_nodes.specs.WellFormed.{IsWellFormed}
 use Rattle.coll_words.specs.KeyedWords.{KeyedWord, IsKeyed, AreKeyed, texts_of}
-use Rattle.coll_words.specs.ListedWords.{AreListedByKeys, IsSortedAnew, all_numbered, newly_beside, numbered_of}
+use Rattle.coll_words.specs.KeptWords.{AreLinesByKeys, keyed_line}
+use Rattle.coll_words.specs.ListedWords.{IsSortedAnew, all_numbered, newly_beside}
 use Rattle.coll_words.specs.Neighbours.{NumberedWord, WordPair, only_in}
 use Rattle.coll_words.specs.NumberedWords.{AreInOrder, line_order, numbered_from}
 use Rattle.coll_words.specs.ReviewLines.{joined_line, most_told, parted_line, statement_told}
-use Rattle.coll_words.specs.ReviewSteps.{HaveLines, LeadsTo, SortsListed, standing_of}
+use Rattle.coll_words.specs.ReviewSteps.{HaveLines, LeadsTo, SortsLines, SortsListed, standing_of}
 use Rattle.coll_words.specs.Reviews.{ArePut, IsPut, Standing}
 use Rattle.coll_words.specs.declared.listed_words.ListedWord.{ListedWord}
+use Rattle.coll_words.specs.declared.numbered_words.KeyedLine.{KeyedLine}
 use Rattle.coll_words.specs.declared.reviews.Review.{Review}
 use Rattle.coll_words.specs.Declaring.{declares_alone}
 use Rattle.coll_words.proofs.DeclaredLemmas.{nothing_new, ordered_alike, sorted_still}
@@ -71,20 +73,23 @@ length_numbered n (word ∷ words) = omega (arith, length_numbered (suc n) words
 
 -- The list.
 
--- words that are listed have the keys that they had
-keyed_listed : (table : Collation) (list : List ListedWord) → AreKeyed table (map (λ (listed : ListedWord). listed.word) list) → AreListedByKeys table list
-keyed_listed table list keyed = λ k d within.
-    subst (IsKeyed table) (get_or-map (λ (listed : ListedWord). listed.word) list k d d.word within)
-    (keyed k d.word (omega (arith, within, length-map list (λ (listed : ListedWord). listed.word))))
+-- words that are numbered have the keys that they had
+keyed_lines : (table : Collation) (list : List KeyedLine) → AreKeyed table (map (λ (keyed : KeyedLine). keyed.word) list) → AreLinesByKeys table list
+keyed_lines table list keyed = λ k d within.
+    subst (IsKeyed table) (get_or-map (λ (keyed : KeyedLine). keyed.word) list k d d.word within)
+    (keyed k d.word (omega (arith, within, length-map list (λ (keyed : KeyedLine). keyed.word))))
 
--- words that were listed, and then sorted
-pub sorts_listed : (words : List KeyedWord) (list sorted : List ListedWord) → all_numbered list ≡ numbered_from 1 (texts_of words)
-    → map (λ (listed : ListedWord). listed.word) list ≡ words → IsPermutation list sorted
-    → ((table : Collation) → IsWellFormed table → AreListedByKeys table list → IsSorted (line_order table) (all_numbered sorted)) → SortsListed words sorted
-sorts_listed words list sorted lines same moved orders = λ table well keyed. record {
-  same = subst (λ (l : List NumberedWord). IsPermutation l (all_numbered sorted)) lines (IsPermutation-map numbered_of list sorted moved);
-  ordered = orders table well (keyed_listed table list (subst (AreKeyed table) (sym same) keyed));
-}
+-- words that were numbered, and then sorted
+pub sorts_listed : (words : List KeyedWord) (lines : List KeyedLine) (list : List NumberedWord) → map keyed_line lines ≡ numbered_from 1 (texts_of words)
+    → map (λ (keyed : KeyedLine). keyed.word) lines ≡ words → SortsLines lines list → SortsListed words list
+sorts_listed words lines list numbers same sorts = λ table well keyed.
+    subst (λ (l : List NumberedWord). AreInOrder table l list) numbers (sorts table well (keyed_lines table lines (subst (AreKeyed table) (sym same) keyed)))
+
+-- words that were sorted by their keys, and then kept
+pub sorts_lines : (lines sorted : List KeyedLine) (list : List NumberedWord) → IsPermutation lines sorted
+    → ((table : Collation) → IsWellFormed table → AreLinesByKeys table lines → IsSorted (line_order table) (map keyed_line sorted)) → list ≡ map keyed_line sorted → SortsLines lines list
+sorts_lines lines sorted list moved orders is = λ table well keyed.
+    subst (AreInOrder table (map keyed_line lines)) (sym is) (record { same = IsPermutation-map keyed_line lines sorted moved; ordered = orders table well keyed })
 
 -- Statements.
 
@@ -120,12 +125,9 @@ told_so : (number : ℕ) (at : StatementAt) (table : Collation) (old new : List 
     ≡ statement_told number at.statement (all_numbered old) (all_numbered new)
 unfolding statement_told
 told_so number at table old new lines anew =
-    let from_lines = subst HaveLines (sym anew.same) lines in
-    ap (λ (n : ℕ). history_line number at.statement ++ (parted_line n ++ flat_map joined_line (take most_told (newly_beside new)))) (lost_told anew.from new anew.moved from_lines)
-    ∙ ap (λ (pairs : List WordPair). history_line number at.statement ++ (parted_line (length (only_in (all_numbered anew.from) (all_numbered new))) ++ flat_map joined_line (take most_told pairs)))
-    (new_told anew.from new anew.moved from_lines)
-    ∙ ap (λ (words : List NumberedWord). history_line number at.statement
-    ++ (parted_line (length (only_in words (all_numbered new))) ++ flat_map joined_line (take most_told (only_in (all_numbered new) words)))) anew.same
+    ap (λ (n : ℕ). history_line number at.statement ++ (parted_line n ++ flat_map joined_line (take most_told (newly_beside new)))) (lost_told old new anew.moved lines)
+    ∙ ap (λ (pairs : List WordPair). history_line number at.statement ++ (parted_line (length (only_in (all_numbered old) (all_numbered new))) ++ flat_map joined_line (take most_told pairs)))
+    (new_told old new anew.moved lines)
 
 -- what is told of a statement that leaves all words where they stand
 unmoved_so : (number : ℕ) (at : StatementAt) (words : List NumberedWord) → history_line number at.statement ++ parted_line 0 ≡ statement_told number at.statement words words
@@ -173,12 +175,11 @@ module _ (old new : Review) (at : StatementAt) (rewritten : delta (collation old
       ++ (parted_line (length (newly_beside new.list.items)) ++ flat_map joined_line (take most_told (newly_beside new.list.items))))
       → PutsOne old at new
   puts_sorted anew told words lines ordered =
-      let old_lines = lines_still words (all_numbered old.list.items) ordered.same lines in
-      let from_lines = subst HaveLines (sym anew.same) old_lines in (
+      let old_lines = lines_still words (all_numbered old.list.items) ordered.same lines in (
         told_of,
         puts words (record {
           same = IsPermutation-trans words (all_numbered old.list.items) (all_numbered new.list.items) ordered.same
-              (subst (λ (l : List NumberedWord). IsPermutation l (all_numbered new.list.items)) anew.same (moved_words anew.from new.list.items anew.moved from_lines));
+              (moved_words old.list.items new.list.items anew.moved old_lines);
           ordered = anew.ordered;
         }),
         told ∙ ap (λ (l : List ℕ). old.told.bytes.items ++ l) (told_so new.count at (collation new.table) old.list.items new.list.items old_lines anew),

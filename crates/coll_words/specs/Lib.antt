@@ -2,9 +2,11 @@ pub mod Declaring
 pub mod ElementMarks
 pub mod FirstKeys
 pub mod FirstNumbers
+pub mod KeptWords
 pub mod KeyedWords
 pub mod LedWords
 pub mod LetterWeights
+pub mod ListedKeys
 pub mod ListedWords
 pub mod MovedWords
 pub mod Neighbours

@@ -1,5 +1,5 @@
 -- Where a review stands, as the code keeps it, and where statements lead it.
-use Rattle.std.specs.Prelude.{◌≡◌, ◌⊎◌, ◌<◌, ◌≤◌, ◌==◌, ℕ, List, ◌++◌, length, filter, All, Option, Some, Result, Ok, Err}
+use Rattle.std.specs.Prelude.{◌≡◌, ◌⊎◌, ◌<◌, ◌≤◌, ◌==◌, ℕ, List, ◌++◌, length, filter, map, All, Option, Some, Result, Ok, Err}
 use Rattle.std.specs.Io.KnownBytes.{Appends}
 use Rattle.coll_devices.specs.Devices.{AppendsPrefix}
 use Rattle.coll_nodes.specs.Table.{Collation}
@@ -11,6 +11,7 @@ use Rattle.coll_bench.specs.BatchReading.{DeltaFails}
 use Rattle.coll_bench.specs.BatchRuns.{ending_of}
 use Rattle.coll_bench.specs.Serving.{write_failed}
 use Rattle.coll_bench.specs.declared.faults.RunFault.{RunFault}
+use Rattle.coll_words.specs.KeptWords.{AreLinesByKeys, keyed_line}
 use Rattle.coll_words.specs.KeyedWords.{KeyedWord, AreKeyed, texts_of}
 use Rattle.coll_words.specs.ListedWords.{all_numbered}
 use Rattle.coll_words.specs.Neighbours.{NumberedWord}
@@ -18,7 +19,7 @@ use Rattle.coll_words.specs.NumberedWords.{AreInOrder, numbered_from}
 use Rattle.coll_words.specs.ReviewLines.{review_line}
 use Rattle.coll_words.specs.Reviews.{ArePut, Standing}
 use Rattle.coll_words.specs.Words.{words_of}
-use Rattle.coll_words.specs.declared.listed_words.ListedWord.{ListedWord}
+use Rattle.coll_words.specs.declared.numbered_words.KeyedLine.{KeyedLine}
 use Rattle.coll_words.specs.declared.reviews.Review.{Review}
 
 -- where a review stands
@@ -38,16 +39,19 @@ LeadsTo begun given now =
     × (now.told.bytes.items ≡ begun.told.bytes.items ++ told)
 
 -- a list has the words of the text that the device had, in the order of a table
-abbrev pub ListsWordsOf : Collation → (left : Option (List ℕ)) → List ListedWord → Type 0
+abbrev pub ListsWordsOf : Collation → (left : Option (List ℕ)) → List NumberedWord → Type 0
 ListsWordsOf table left list =
     (text : List ℕ) → left ≡ Some text → (words : List (List ℕ)) × (words_of text ≡ Ok words)
-    × AreInOrder table (numbered_from 1 words) (all_numbered list)
+    × AreInOrder table (numbered_from 1 words) list
 
 -- a list has these words with the numbers of their lines, in the order of each table that they are keyed by
-abbrev pub SortsListed : List KeyedWord → List ListedWord → Type 0
+abbrev pub SortsListed : List KeyedWord → List NumberedWord → Type 0
 SortsListed words list =
-    (table : Collation) → IsWellFormed table → AreKeyed table words
-    → AreInOrder table (numbered_from 1 (texts_of words)) (all_numbered list)
+    (table : Collation) → IsWellFormed table → AreKeyed table words → AreInOrder table (numbered_from 1 (texts_of words)) list
+
+-- the same of words that have the numbers of their lines
+abbrev pub SortsLines : List KeyedLine → List NumberedWord → Type 0
+SortsLines lines list = (table : Collation) → IsWellFormed table → AreLinesByKeys table lines → AreInOrder table (map keyed_line lines) list
 
 -- what is written of a review where it stands
 abbrev pub review_bytes : Review → List ℕ

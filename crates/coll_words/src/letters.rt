@@ -42,7 +42,7 @@ impl Letters {
     /// hold one have no more bytes together than are given. They were gathered so often before.
     pub fn of(
         alloc: Global,
-        list: &[ListedWord],
+        list: &[ListedWord<'_>],
         marks: &ElementMarks,
         most: usize,
         most_joined: usize,
@@ -59,7 +59,7 @@ impl Letters {
         };
         let mut left = most_joined;
         for listed in list {
-            let word = listed.word.text();
+            let word = listed.text;
             if !letters.all || word.len() > MOST_WORD_BYTES {
                 letters.all = false;
                 return Ok(letters);

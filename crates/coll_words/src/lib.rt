@@ -11,13 +11,14 @@
 //!   (`FirstKeys`); `lent_words`, which are sorted; and `tied_words`, which are sorted by their whole keys;
 //! - `sorting`: the words of an input are sorted, and written (`SortRuns`);
 //! - `reviewing`: statements are put to a table one by one, and of each it is told what it did to the words of an input
-//!   (`ReviewRuns`), over `listed_words` with the list that is sorted anew (`Neighbours`, `NumberedWords`, `ListedWords`), by
-//!   `staying_words` and `moved_words` as far as its words move (`MovedWords`), and behind a guess of `word_fronts` where many do; the
-//!   words are compared by `word_orders` (`WordOrders`), where it serves by what their `letters` weigh (`letter_weights`,
-//!   `LetterWeights`), mostly by the single numbers of these at the first level (`first_numbers`, `FirstNumbers`), as far as no element
-//!   stands among them (`element_marks`, `ElementMarks`); `review_lines` with what is told of a statement (`ReviewLines`), and `reviews`
-//!   with where a review stands (`Reviews`, `ReviewSteps`), and which statements move no word (`Declaring`); what is told is kept by
-//!   `kept_bytes`, and how far a review got is told by `progress`.
+//!   (`ReviewRuns`). The words are kept by `numbered_words` (`NumberedWords`, `KeptWords`), and `listed_words` has the list of them that
+//!   is sorted anew (`Neighbours`, `ListedWords`), by `staying_words` and `moved_words` as far as its words move (`MovedWords`), by keys
+//!   that `listed_keys` make (`ListedKeys`), and behind a guess of `word_fronts` where many do; the words are compared by `word_orders`
+//!   (`WordOrders`), where it serves by what their `letters` weigh (`letter_weights`, `LetterWeights`), mostly by the single numbers of
+//!   these at the first level (`first_numbers`, `FirstNumbers`), as far as no element stands among them (`element_marks`,
+//!   `ElementMarks`); `review_lines` with what is told of a statement (`ReviewLines`), and `reviews` with where a review stands
+//!   (`Reviews`, `ReviewSteps`), and which statements move no word (`Declaring`); what is told is kept by `kept_bytes`, and how far a
+//!   review got is told by `progress`.
 #![tactic(auto)]
 
 mod element_marks;
@@ -27,8 +28,10 @@ mod kept_bytes;
 mod lent_words;
 mod letter_weights;
 mod letters;
+mod listed_keys;
 mod listed_words;
 mod moved_words;
+mod numbered_words;
 mod packed_keys;
 mod progress;
 mod reading;

@@ -18,14 +18,14 @@ pub trait Progress {
 
 /// A review, and who is told how far it got.
 #[derive(Drop)]
-pub(crate) struct WatchedReview<P: Progress + Drop> {
+pub(crate) struct WatchedReview<'a, P: Progress + Drop> {
     /// The review.
-    pub review: Review,
+    pub review: Review<'a>,
     /// Who is told.
     pub progress: P,
 }
 
-impl<P: Progress + Drop> TakesStatements for WatchedReview<P> {
+impl<'a, P: Progress + Drop> TakesStatements for WatchedReview<'a, P> {
     ghost use Rattle.coll_words.specs.ReviewSteps.{LeadsTo};
 
     ghost table = { λ watched. collation watched.review.table };

@@ -23,7 +23,7 @@ pub(crate) fn write_told<W: Sink>(
     out: &mut W,
     number: u32,
     statement: &Statement,
-    list: &[ListedWord],
+    list: &[ListedWord<'_>],
 ) -> Result<(), WriteStop>
     ensures { Writes (W.taken out.old) (W.taken out.new) (W.failed out.old) (W.failed out.new)
         (history_line number statement.now
@@ -68,7 +68,7 @@ pub(crate) fn write_counts<W: Sink>(
 }
 
 // How many pairs of neighbours are new. As many are neighbours no longer.
-fn new_pairs(list: &[ListedWord]) -> usize
+fn new_pairs(list: &[ListedWord<'_>]) -> usize
     ensures { result ≡ length (newly_beside list.now) }
 {
     let mut count = 0;
@@ -97,7 +97,7 @@ fn write_parted<W: Sink>(out: &mut W, count: usize) -> Result<(), WriteStop>
 }
 
 // Writes the first of the pairs that are new.
-fn write_joined<W: Sink>(out: &mut W, list: &[ListedWord]) -> Result<(), WriteStop>
+fn write_joined<W: Sink>(out: &mut W, list: &[ListedWord<'_>]) -> Result<(), WriteStop>
     ensures { Writes (W.taken out.old) (W.taken out.new) (W.failed out.old) (W.failed out.new)
         (flat_map joined_line (take most_told (newly_beside list.now))) result }
 {
@@ -122,16 +122,16 @@ fn write_joined<W: Sink>(out: &mut W, list: &[ListedWord]) -> Result<(), WriteSt
 // Writes the line of two words that are neighbours now.
 fn write_pair<W: Sink>(
     out: &mut W,
-    first: &ListedWord,
-    second: &ListedWord,
+    first: &ListedWord<'_>,
+    second: &ListedWord<'_>,
 ) -> Result<(), WriteStop>
     ensures { Writes (W.taken out.old) (W.taken out.new) (W.failed out.old) (W.failed out.new)
         (joined_line (numbered_of first.now, numbered_of second.now)) result }
 {
     write_bytes(out, b"joined \"")?;
-    write_quoted(out, first.word.text())?;
+    write_quoted(out, first.text)?;
     write_bytes(out, b"\" \"")?;
-    write_quoted(out, second.word.text())?;
+    write_quoted(out, second.text)?;
     write_bytes(out, b"\"\n")
 }
 

@@ -3,16 +3,18 @@
 //! `review_words` carries the theorem of a review (`ReviewRuns`). The words are read first, then the delta file, statement by
 //! statement; what is told is kept in memory, and written once the whole file was put to the table.
 
-ghost use Rattle.std.specs.Prelude.{◌≡◌, ◌≤◌, IfErr, IfOk, IfSome};
+ghost use Rattle.std.specs.Prelude.{◌≡◌, ◌≤◌, map, IfErr, IfOk, IfSome};
 ghost use Rattle.coll_devices.specs.Devices.{Sends};
 ghost use Rattle.coll_nodes.specs.TableLayout.{collation};
 ghost use Rattle.coll_bench.specs.BatchReading.{WritesNone, starved_in};
 ghost use Rattle.coll_bench.specs.Serving.{CountsWrites, write_failed};
+ghost use Rattle.coll_words.specs.KeptWords.{kept_line};
 ghost use Rattle.coll_words.specs.ReviewRuns.{CountsReadingOf, ReviewRuns};
-ghost use Rattle.coll_words.specs.ReviewSteps.{ListsWordsOf, SortsListed, WritesReview, review_bytes};
+ghost use Rattle.coll_words.specs.ReviewSteps.{ListsWordsOf, SortsLines, SortsListed, WritesReview, review_bytes};
 ghost use Rattle.coll_words.specs.WordReading.{CountsReading, ReadingFails};
 
-use crate::listed_words::{ListedWord, listed, sort_listed};
+use crate::listed_words::listed;
+use crate::numbered_words::{KeptWord, KeyedLine, kept_words, numbered, sort_numbered};
 use crate::progress::{Progress, WatchedReview};
 use crate::reading::read_words;
 use crate::reviews::Review;
@@ -53,13 +55,19 @@ pub fn review_words<D: Source, R: Source, W: Sink, P: Progress + Drop>(
     ensures writes { CountsWrites (W.failed output.old) (W.failed output.new) result }
 {
     match list_words(alloc, &table, words) {
-        Ok(list) => {
-            let review = Review::new(alloc, table, list);
-            let mut watched = WatchedReview { review, progress };
-            let told = review_delta(alloc, &mut watched, delta, output);
-            drop(watched);
-            told
-        }
+        Ok(kept) => match listed(alloc, &kept) {
+            Ok(list) => {
+                let review = Review::new(alloc, table, list);
+                let mut watched = WatchedReview { review, progress };
+                let told = review_delta(alloc, &mut watched, delta, output);
+                drop(watched);
+                told
+            }
+            Err(_) => {
+                drop(table);
+                Err(no_memory())
+            }
+        },
         Err(ended) => {
             drop(table);
             Err(ended)
@@ -72,8 +80,8 @@ fn list_words<R: Source>(
     alloc: Global,
     table: &Table,
     input: &mut R,
-) -> Result<Vec<ListedWord>, RunFault>
-    ensures words { IfOk result (λ list. ListsWordsOf (collation table.now) (R.left input.old) list.items) }
+) -> Result<Vec<KeptWord>, RunFault>
+    ensures words { IfOk result (λ kept. ListsWordsOf (collation table.now) (R.left input.old) (map kept_line kept.items)) }
     ensures fault { IfErr result (λ ended. ReadingFails (R.left input.old) (R.left input.new) (record ended { input = 0 })) }
     ensures input { IfErr result (λ ended. ended.input ≡ 2) }
     ensures writes { IfErr result (λ ended. WritesNone ended) }
@@ -82,7 +90,7 @@ fn list_words<R: Source>(
     table.lemma_well_formed();
     match read_words(alloc, table, input) {
         Ok(words) => match sorted_list(alloc, words) {
-            Some(list) => Ok(list),
+            Some(kept) => Ok(kept),
             None => Err(no_memory()),
         },
         Err(ended) => Err(RunFault {
@@ -93,14 +101,17 @@ fn list_words<R: Source>(
     }
 }
 
-// Words with the numbers of their lines, sorted by their keys; nothing where memory is refused.
-fn sorted_list(alloc: Global, words: Vec<Word>) -> Option<Vec<ListedWord>>
-    ensures { IfSome result (λ list. SortsListed words.items list.items) }
+// The texts of words with the numbers of their lines, sorted by their keys; nothing where memory is refused.
+fn sorted_list(alloc: Global, words: Vec<Word>) -> Option<Vec<KeptWord>>
+    ensures { IfSome result (λ kept. SortsListed words.items (map kept_line kept.items)) }
 {
-    match listed(alloc, words) {
-        Ok(mut list) => match sort_listed(&mut list) {
-            Ok(()) => Some(list),
-            Err(_) => {
+    match numbered(alloc, words) {
+        Ok(mut list) => match sorted_words(alloc, &mut list) {
+            Some(kept) => {
+                drop(list);
+                Some(kept)
+            }
+            None => {
                 drop(list);
                 None
             }
@@ -109,10 +120,23 @@ fn sorted_list(alloc: Global, words: Vec<Word>) -> Option<Vec<ListedWord>>
     }
 }
 
+// The texts of words that are sorted by their keys; nothing where memory is refused.
+fn sorted_words(alloc: Global, list: &mut Vec<KeyedLine>) -> Option<Vec<KeptWord>>
+    ensures { IfSome result (λ kept. SortsLines list.old.items (map kept_line kept.items)) }
+{
+    match sort_numbered(list) {
+        Ok(()) => match kept_words(alloc, list) {
+            Ok(kept) => Some(kept),
+            Err(_) => None,
+        },
+        Err(_) => None,
+    }
+}
+
 // Puts the statements of a delta file, and writes what is told of them.
 fn review_delta<D: Source, W: Sink, P: Progress + Drop>(
     alloc: Global,
-    watched: &mut WatchedReview<P>,
+    watched: &mut WatchedReview<'_, P>,
     delta: &mut D,
     output: &mut W,
 ) -> Result<(), RunFault>
@@ -128,7 +152,7 @@ fn review_delta<D: Source, W: Sink, P: Progress + Drop>(
 }
 
 // Writes what a review told.
-fn write_review<W: Sink>(review: &Review, output: &mut W) -> Result<(), RunFault>
+fn write_review<W: Sink>(review: &Review<'_>, output: &mut W) -> Result<(), RunFault>
     ensures sent { Sends (W.taken output.old) (W.taken output.new) (review_bytes review.now) result }
     ensures fault { IfErr result (λ ended. ended ≡ write_failed) }
     ensures writes { CountsWrites (W.failed output.old) (W.failed output.new) result }

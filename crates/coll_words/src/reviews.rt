@@ -24,11 +24,11 @@ use std::alloc::Global;
 
 /// Where a review stands.
 #[derive(Drop)]
-pub(crate) struct Review {
+pub(crate) struct Review<'a> {
     alloc: Global,
     table: Table,
     // The words, in the order of the table.
-    list: Vec<ListedWord>,
+    list: Vec<ListedWord<'a>>,
     // What the words are compared by.
     looks: Looks,
     // How many statements were put.
@@ -37,12 +37,12 @@ pub(crate) struct Review {
     told: KeptBytes,
 }
 
-impl Review {
+impl<'a> Review<'a> {
     ghost use Rattle.coll_words.specs.ReviewSteps.{standing_of};
 
     /// A review of these words, which are in the order of the table, before the first statement.
-    pub fn new(alloc: Global, table: Table, list: Vec<ListedWord>) -> Review
-        ensures stands { standing_of result ≡ record { table = collation table; sorted = all_numbered list.items; count = zero } }
+    pub fn new(alloc: Global, table: Table, list: Vec<ListedWord<'a>>) -> Review<'a>
+        ensures stands { standing_of result ≡ record { table = collation table; sorted = all_numbered list.entry.items; count = zero } }
         ensures told { result.told.bytes.items ≡ [] }
     {
         Review {
@@ -72,7 +72,7 @@ impl Review {
     }
 }
 
-impl TakesStatements for Review {
+impl<'a> TakesStatements for Review<'a> {
     ghost use Rattle.coll_words.specs.ReviewSteps.{LeadsTo};
 
     ghost table = { λ review. collation review.table };

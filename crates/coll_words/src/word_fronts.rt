@@ -60,10 +60,10 @@ impl<'a> WordFronts<'a> {
     }
 
     /// Sorts words by their numbers. Words with the same stay in their order.
-    pub fn sort(&self, words: &mut Vec<ListedWord>) -> Result<(), AllocError>
+    pub fn sort(&self, words: &mut Vec<ListedWord<'_>>) -> Result<(), AllocError>
         ensures { IsPermutation words.old.items words.new.items }
     {
-        words.sort_by_cached_key(|listed| self.front(listed.word.text()))
+        words.sort_by_cached_key(|listed| self.front(listed.text))
     }
 
     // The number of a word.

@@ -81,7 +81,7 @@ pub(crate) fn word_order<'a>(
     alloc: Global,
     table: &Table,
     looks: &'a mut Looks,
-    list: &[ListedWord],
+    list: &[ListedWord<'_>],
 ) -> Result<WordOrder<'a>, AllocError>
     ensures { IfOk result (λ order. Serves order table.now) }
 {
@@ -123,7 +123,7 @@ fn look_at_letters(
     alloc: Global,
     table: &Table,
     kept: &mut Option<Letters>,
-    list: &[ListedWord],
+    list: &[ListedWord<'_>],
 ) -> Result<Option<ElementMarks>, AllocError>
     ensures { IfOk result (λ found. IfSome found (λ marks.
         AreMarks (collation table.now) marks × IfSome kept.new (MayServe (collation table.now)))) }
@@ -256,7 +256,7 @@ pub(crate) fn can_guess(table: &Table, order: &WordOrder<'_>) -> bool {
 pub(crate) fn guess_order(
     alloc: Global,
     order: &WordOrder<'_>,
-    list: &mut Vec<ListedWord>,
+    list: &mut Vec<ListedWord<'_>>,
 ) -> Result<(), AllocError>
     ensures { IsPermutation list.old.items list.new.items }
 {

@@ -1,40 +1,13 @@
--- Each word in turn, up to the last.
-use Rattle.std.proofs.Common.{arith, ◌∙◌, ◌+◌, ◌++◌, ◌∷◌, [], sym, ap, subst}
-use Rattle.std.proofs.lemmas.Iterator.Adapters.{YieldsList-from_vec}
-use Rattle.std.proofs.lemmas.Iterator.Consumers.{YieldsList-turn, YieldsList-end}
-use Rattle.coll_words.specs.KeyedWords.{texts_of}
-use Rattle.coll_words.specs.NumberedWords.{numbered_from}
-use Rattle.coll_words.proofs.ListedLemmas.{ListedSoFar, as_many_listed, one_more_listed, same_words}
+-- Each word is lent with its line.
+use Rattle.std.proofs.Common.{ℕ, List, ap, arith, ◌∙◌}
+use Rattle.coll_words.specs.KeptWords.{kept_line}
+use Rattle.coll_words.specs.ListedWords.{numbered_of}
+use Rattle.coll_words.specs.Neighbours.{NumberedWord}
+use Rattle.coll_words.proofs.KeptLemmas.{one_more_alike}
 use Rattle.coll_words.proofs.listed_words.listed.Goals as goal
 
-pub push_reserved-requires : goal.push_reserved-requires
-push_reserved-requires c =
-    let b = c.into_iter-word-iterator.ensures.into_iter_gives in
-    let turn = YieldsList-turn (YieldsList-from_vec {s = c.into_iter-word-iterator.result} c.args.words.items b.0 (b.1 ∙ c.args.words.ok.0)) c.loop-word.yielded c.loop-word.word-iterator
-    c.loop-word.yielded_by
-    c.next.result c.next.new.self c.in-Some.word c.in-Some.is c.next.ensures.steps in
-    omega (arith, c.loop-word.invariant.room, as_many_listed c.loop-word.yielded c.loop-word.list.items c.loop-word.invariant.listed, turn.0, c.loop-word.list.ok.0, c.args.words.ok.0)
-
 pub loop-word-preserved : goal.loop-word-preserved
-loop-word-preserved c = record {
-  listed = subst (ListedSoFar (c.loop-word.yielded ++ c.in-Some.word ∷ [])) (sym c.push_reserved.ensures.items)
-      (one_more_listed c.loop-word.yielded c.loop-word.list.items c.loop-word.invariant.listed c.in-Some.word (c.len-line.result + 1) 0
-      (omega (arith, c.len-line.ensures, c.loop-word.list.ok.0)));
-  room = c.push_reserved.ensures.capacity ∙ c.loop-word.invariant.room;
-}
-
-pub returns-clause-lines : goal.returns-clause-lines
-returns-clause-lines c =
-    let b = c.into_iter-word-iterator.ensures.into_iter_gives in
-    let all = YieldsList-end (YieldsList-from_vec {s = c.into_iter-word-iterator.result} c.args.words.items b.0 (b.1 ∙ c.args.words.ok.0)) c.loop-word.yielded c.loop-word.word-iterator
-    c.loop-word.yielded_by
-    c.next.result c.next.new.self c.in-None.is c.next.ensures.steps in
-    c.loop-word.invariant.listed.lines ∙ ap (λ words. numbered_from 1 (texts_of words)) (sym (same_words c.loop-word.yielded) ∙ all.0)
-
-pub returns-clause-words : goal.returns-clause-words
-returns-clause-words c =
-    let b = c.into_iter-word-iterator.ensures.into_iter_gives in
-    let all = YieldsList-end (YieldsList-from_vec {s = c.into_iter-word-iterator.result} c.args.words.items b.0 (b.1 ∙ c.args.words.ok.0)) c.loop-word.yielded c.loop-word.word-iterator
-    c.loop-word.yielded_by
-    c.next.result c.next.new.self c.in-None.is c.next.ensures.steps in
-    c.loop-word.invariant.listed.words_are ∙ sym (same_words c.loop-word.yielded) ∙ all.0
+loop-word-preserved c =
+    let with_text : List ℕ → NumberedWord = λ text. record { line = c.word-item.result.line; text = text } in
+    one_more_alike numbered_of kept_line c.loop-word.list.items c.push.new.self.items _ c.args.kept.now c.loop-word.word-index c.word-item.result (omega (arith, c.loop-word-test.true))
+    c.loop-word.invariant c.in_ok-push.ensures.items (ap with_text c.get.ensures.characters ∙ ap kept_line c.word-item.is)

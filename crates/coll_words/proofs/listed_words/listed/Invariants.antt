@@ -1,11 +1,8 @@
--- The words so far are listed, and there is room for the others.
-use Rattle.std.proofs.Common.{◌≡◌, vec_len, vec_capacity}
-use Rattle.coll_words.proofs.ListedLemmas.{ListedSoFar}
+-- The words so far are lent.
+use Rattle.std.proofs.Common.{◌≡◌, map, take}
+use Rattle.coll_words.specs.KeptWords.{kept_line}
+use Rattle.coll_words.specs.ListedWords.{all_numbered}
 use Rattle.coll_words.proofs.listed_words.listed.Given as goal
 
 abbrev pub invariant-loop-word : goal.invariant-loop-word
-invariant-loop-word l =
-    record {
-      listed : ListedSoFar l.yielded l.list.items;
-      room : vec_capacity l.list ≡ vec_len l.fn.words;
-    }
+invariant-loop-word l = all_numbered l.list.items ≡ map kept_line (take l.word-index l.kept)

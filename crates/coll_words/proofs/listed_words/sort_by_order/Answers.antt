@@ -1,11 +1,10 @@
 -- The words are led, and then sorted.
 use Rattle.std.proofs.Common.{◌≡◌, List, length, sym, ap, ◌∙◌}
 use Rattle.coll_nodes.specs.TableLayout.{collation}
-use Rattle.coll_words.specs.ListedWords.{all_numbered, led_by}
+use Rattle.coll_words.specs.ListedWords.{led_by}
 use Rattle.coll_words.specs.declared.listed_words.ListedWord.{ListedWord}
-use Rattle.coll_words.proofs.KeyedAnew.{anew_led}
+use Rattle.coll_words.proofs.SortedAgain.{anew_led}
 use Rattle.coll_words.proofs.ListedLemmas.{length_led, take_front}
-use Rattle.coll_words.proofs.NeighbourLemmas.{numbered_still}
 use Rattle.coll_words.proofs.listed_words.sort_by_order.Goals as goal
 
 pub returns : goal.returns
@@ -15,5 +14,4 @@ returns c =
     let led = c.lead.new.list in
     let led_is : led ≡ led_by 0 items = c.lead.ensures ∙ ap (led_by 0) c.deref_mut.ensures.value in
     let long : length led ≡ len = ap (λ (l : List ListedWord). length l) led_is ∙ length_led 0 items ∙ sym c.args.list.now.ok.0 in
-    let is = take_front len led _ long ∙ led_is in
-    anew_led (collation c.args.table.now) items _ c.sort_led.new.list.items c.sort_led.result is (ap (λ (l : List ListedWord). all_numbered l) is ∙ numbered_still 0 items) c.sort_led.ensures
+    anew_led (collation c.args.table.now) items _ c.sort_led.new.list.items c.sort_led.result (take_front len led _ long ∙ led_is) c.sort_led.ensures

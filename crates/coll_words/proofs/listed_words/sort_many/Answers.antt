@@ -1,8 +1,8 @@
 -- The words are put into an order that is guessed, and then sorted.
 use Rattle.coll_nodes.specs.TableLayout.{collation}
-use Rattle.coll_words.proofs.KeyedAnew.{again_behind_if}
+use Rattle.coll_words.proofs.SortedAgain.{again_behind}
 use Rattle.coll_words.proofs.listed_words.sort_many.Goals as goal
 
 pub returns : goal.returns
 returns c =
-    again_behind_if (collation c.args.table.now) c.args.list.now.items c.guess_order.new.list.items c.sort_guessed.new.list.items c.sort_guessed.result c.in_ok-guess_order.ensures c.sort_guessed.ensures
+    again_behind (collation c.args.table.now) c.args.list.now.items c.guess_order.new.list.items c.sort_guessed.new.list.items c.sort_guessed.result c.in_ok-guess_order.ensures c.sort_guessed.ensures

@@ -1,7 +1,7 @@
 -- The words are in order still, or some move.
 use Rattle.std.proofs.Common.{◌≡◌, length, arith}
 use Rattle.coll_nodes.specs.TableLayout.{collation}
-use Rattle.coll_words.proofs.KeyedAnew.{again_in_order}
+use Rattle.coll_words.proofs.SortedAgain.{again_in_order}
 use Rattle.coll_words.proofs.ListedLemmas.{whole_ordered}
 use Rattle.coll_words.proofs.listed_words.sort_moved_alone.Goals as goal
 

@@ -1,7 +1,7 @@
 -- The word at the place is put with those behind it, or stays with those before it.
 use Rattle.std.proofs.Common.{arith, sym, ◌∙◌}
 use Rattle.coll_nodes.specs.TableLayout.{collation}
-use Rattle.coll_words.proofs.OrderedWords.{comes_once, put_at, stays_at}
+use Rattle.coll_words.proofs.OrderedWords.{comes_once, put_here, stays_here}
 use Rattle.coll_words.proofs.moved_words.count_left.Goals as goal
 
 pub parts-preserved-then-branch : goal.parts-preserved-then-branch
@@ -9,8 +9,8 @@ parts-preserved-then-branch c = record {
   order = c.place_before-place.ensures.from;
   within = omega (arith, c.place_before-place.ensures.below, c.parts.invariant.within);
   put = λ d within.
-      put_at (collation c.args.table.now) c.args.words.now c.place_before-place.result c.index-words-place.result c.args.next.now d (comes_once (collation c.args.table.now) c.lemma_well_formed.ensures.well_formed)
-      within c.index-words-place.is (sym c.in_ok-comes_before.ensures ∙ c.if-branch.true);
+      put_here (collation c.args.table.now) c.args.words.now c.place_before-place.result _ c.args.next.now d (comes_once (collation c.args.table.now) c.lemma_well_formed.ensures.well_formed)
+      within (sym c.in_ok-comes_before.ensures ∙ c.if-branch.true);
   stay = c.parts.invariant.stay;
 }
 
@@ -20,6 +20,6 @@ parts-preserved c = record {
   within = c.parts.invariant.within;
   put = c.parts.invariant.put;
   stay = λ d above.
-      stays_at (collation c.args.table.now) c.args.words.now c.place_before-place.result _ c.index-words-place.result c.args.next.now d
-      (omega (arith, c.place_before-place.ensures.below, c.parts.invariant.within)) (omega arith) c.index-words-place.is (sym c.in_ok-comes_before.ensures ∙ c.if-branch.false);
+      stays_here (collation c.args.table.now) c.args.words.now c.place_before-place.result _ _ c.args.next.now d
+      (omega (arith, c.place_before-place.ensures.below, c.parts.invariant.within)) (omega arith) (sym c.in_ok-comes_before.ensures ∙ c.if-branch.false);
 }

@@ -1,6 +1,6 @@
 -- The words are taken apart, sorted as far as they move, and put together.
 use Rattle.coll_nodes.specs.TableLayout.{collation}
-use Rattle.coll_words.proofs.KeyedAnew.{again_put}
+use Rattle.coll_words.proofs.SortedAgain.{again_put}
 use Rattle.coll_words.proofs.moved_words.move_words.Goals as goal
 
 pub returns : goal.returns

@@ -1,6 +1,6 @@
 -- A pair more, or none; and behind the last word there is none.
 use Rattle.std.proofs.Common.{◌+◌, length, ap, arith, subst, sym}
-use Rattle.coll_words.proofs.ListedLemmas.{CountedSoFar, counted_new, counted_old, pairs_end}
+use Rattle.coll_words.proofs.ListedLemmas.{CountedSoFar, counted_new_at, counted_old_at, pairs_end}
 use Rattle.coll_words.proofs.review_lines.new_pairs.Goals as goal
 use Rattle.coll_words.proofs.review_lines.new_pairs.Goals.{then-first-second, else-first-second}
 
@@ -11,13 +11,11 @@ pub loop-place-preserved : goal.loop-place-preserved
 loop-place-preserved c =
     let list = c.args.list.now in
     let place = c.loop-place.place in
-    let first = c.index-list-place.result in
-    let next = c.index-list-place-in-loop-place.result in
     elim c.if-first-second.branch [
       | then-first-second w ↦ subst (CountedSoFar list (place + 1)) (sym w.count-is)
-          (counted_new list place first next c.loop-place.invariant.above c.loop-place-test.true c.index-list-place.is c.index-list-place-in-loop-place.is c.loop-place.count c.loop-place.invariant
+          (counted_new_at list place _ _ c.loop-place.invariant.above c.loop-place-test.true c.loop-place.count c.loop-place.invariant
           w.if-first-second.true)
       | else-first-second w ↦ subst (CountedSoFar list (place + 1)) (sym w.count-is)
-          (counted_old list place first next c.loop-place.invariant.above c.loop-place-test.true c.index-list-place.is c.index-list-place-in-loop-place.is c.loop-place.count c.loop-place.invariant
+          (counted_old_at list place _ _ c.loop-place.invariant.above c.loop-place-test.true c.loop-place.count c.loop-place.invariant
           w.if-first-second.false)
     ]

@@ -3,7 +3,7 @@ use Rattle.std.proofs.Common.{◌-◌, ap, arith, take, drop, ◌∙◌, ℕ, ru
 use Rattle.coll_texts.proofs.PrintedParts.{written_all}
 use Rattle.coll_words.specs.ListedWords.{newly_beside}
 use Rattle.coll_words.specs.ReviewLines.{joined_line, most_told}
-use Rattle.coll_words.proofs.ListedLemmas.{joined_new, joined_old, joined_stops, pairs_end, take_nothing}
+use Rattle.coll_words.proofs.ListedLemmas.{joined_new_at, joined_old_at, joined_stops_at, pairs_end, take_nothing}
 use Rattle.coll_words.proofs.review_lines.write_joined.Goals as goal
 use Rattle.coll_words.proofs.review_lines.write_joined.Goals.{then-first-second+in_default, else-first-second}
 
@@ -11,8 +11,7 @@ pub returns-in-Err : goal.returns-in-Err
 returns-in-Err g c =
     let taken = g.W.Sink.taken in
     record {
-      sent = joined_stops c.args.list.now c.loop-place.place c.index-list-place.result c.index-list-place-in-loop-place.result c.loop-place.invariant.above c.loop-place-test.true c.index-list-place.is
-          c.index-list-place-in-loop-place.is (take most_told (newly_beside c.args.list.now)) c.loop-place.left (taken c.args.out.now) (taken c.loop-place.out) (taken c.write_pair.new.out)
+      sent = joined_stops_at c.args.list.now c.loop-place.place _ _ c.loop-place.invariant.above c.loop-place-test.true (take most_told (newly_beside c.args.list.now)) c.loop-place.left (taken c.args.out.now) (taken c.loop-place.out) (taken c.write_pair.new.out)
           c.if-left-eq0.false c.if-first-second.true c.loop-place.invariant.sent c.in-Err.ensures.sent;
       errors = search rules;
     }
@@ -22,21 +21,19 @@ loop-place-preserved g c =
     let taken = g.W.Sink.taken in
     let list = c.args.list.now in
     let place = c.loop-place.place in
-    let first = c.index-list-place.result in
-    let next = c.index-list-place-in-loop-place.result in
     let all = take most_told (newly_beside list) in
     elim c.if-first-second.branch [
       | then-first-second+in_default w ↦ record {
         above = omega arith;
         sent = rw (w.out-is, w.left-is)
-            (joined_new list place first next c.loop-place.invariant.above c.loop-place-test.true c.index-list-place.is c.index-list-place-in-loop-place.is all c.loop-place.left (taken c.args.out.now)
+            (joined_new_at list place _ _ c.loop-place.invariant.above c.loop-place-test.true all c.loop-place.left (taken c.args.out.now)
             (taken c.loop-place.out) (taken w.write_pair.new.out) c.if-left-eq0.false w.if-first-second.true c.loop-place.invariant.sent w.in_default.ensures.sent);
         count = rw w.out-is (w.in_default.ensures.errors ∙ c.loop-place.invariant.count);
       }
       | else-first-second w ↦ record {
         above = omega arith;
         sent = rw (w.out-is, w.left-is)
-            (joined_old list place first next c.loop-place.invariant.above c.loop-place-test.true c.index-list-place.is c.index-list-place-in-loop-place.is all c.loop-place.left (taken c.args.out.now)
+            (joined_old_at list place _ _ c.loop-place.invariant.above c.loop-place-test.true all c.loop-place.left (taken c.args.out.now)
             (taken c.loop-place.out) w.if-first-second.false c.loop-place.invariant.sent);
         count = rw w.out-is c.loop-place.invariant.count;
       }

@@ -1,5 +1,5 @@
 -- Each part, one behind another.
-use Rattle.std.proofs.Common.{◌++◌, refl, rules}
+use Rattle.std.proofs.Common.{◌++◌, chars, refl, rules}
 use Rattle.std.specs.Prelude.{codes}
 use Rattle.std.specs.List.{flat_map}
 use Rattle.coll_devices.proofs.WritingLemmas.{Sends-after}
@@ -12,7 +12,7 @@ returns-in_err-write_bytes g c =
     let taken = g.W.Sink.taken in
     record {
       sent = stops_first (taken c.args.out.now) (taken c.write_bytes.new.out) _ (codes "joined \"")
-          ((flat_map quoted_char c.args.first.now.word.text) ++ ((codes "\" \"") ++ ((flat_map quoted_char c.args.second.now.word.text) ++ (codes "\"\n")))) c.from_residual.result refl
+          ((flat_map quoted_char (chars c.args.first.now.text.now)) ++ ((codes "\" \"") ++ ((flat_map quoted_char (chars c.args.second.now.text.now)) ++ (codes "\"\n")))) c.from_residual.result refl
           c.from_residual.ensures.0 c.in_err-write_bytes.ensures.sent;
       errors = search rules;
     }
@@ -20,13 +20,13 @@ returns-in_err-write_bytes g c =
 pub returns-in_err-write_quoted : goal.returns-in_err-write_quoted
 returns-in_err-write_quoted g c =
     let taken = g.W.Sink.taken in
-    let part = rw c.text.ensures.characters at c.in_err-write_quoted.ensures.sent in
+    let part = c.in_err-write_quoted.ensures.sent in
     record {
       sent = Sends-after (taken c.args.out.now) (taken c.write_bytes.new.out) (taken c.write_quoted.new.out) (codes "joined \"")
-          ((flat_map quoted_char c.args.first.now.word.text) ++ ((codes "\" \"") ++ ((flat_map quoted_char c.args.second.now.word.text) ++ (codes "\"\n")))) c.from_residual-in_err-write_quoted.result
+          ((flat_map quoted_char (chars c.args.first.now.text.now)) ++ ((codes "\" \"") ++ ((flat_map quoted_char (chars c.args.second.now.text.now)) ++ (codes "\"\n")))) c.from_residual-in_err-write_quoted.result
           c.in_ok-write_bytes.ensures.sent
-          (stops_first (taken c.write_bytes.new.out) (taken c.write_quoted.new.out) _ (flat_map quoted_char c.args.first.now.word.text)
-          ((codes "\" \"") ++ ((flat_map quoted_char c.args.second.now.word.text) ++ (codes "\"\n"))) c.from_residual-in_err-write_quoted.result refl c.from_residual-in_err-write_quoted.ensures.0
+          (stops_first (taken c.write_bytes.new.out) (taken c.write_quoted.new.out) _ (flat_map quoted_char (chars c.args.first.now.text.now))
+          ((codes "\" \"") ++ ((flat_map quoted_char (chars c.args.second.now.text.now)) ++ (codes "\"\n"))) c.from_residual-in_err-write_quoted.result refl c.from_residual-in_err-write_quoted.ensures.0
           part);
       errors = search rules;
     }
@@ -34,14 +34,14 @@ returns-in_err-write_quoted g c =
 pub returns-in_err-write_bytes-2 : goal.returns-in_err-write_bytes-2
 returns-in_err-write_bytes-2 g c =
     let taken = g.W.Sink.taken in
-    let first = rw c.text.ensures.characters at c.in_ok-write_quoted.ensures.sent in
+    let first = c.in_ok-write_quoted.ensures.sent in
     record {
       sent = Sends-after (taken c.args.out.now) (taken c.write_bytes.new.out) (taken c.write_bytes-2.new.out) (codes "joined \"")
-          ((flat_map quoted_char c.args.first.now.word.text) ++ ((codes "\" \"") ++ ((flat_map quoted_char c.args.second.now.word.text) ++ (codes "\"\n")))) c.from_residual-in_err-write_bytes-2.result
+          ((flat_map quoted_char (chars c.args.first.now.text.now)) ++ ((codes "\" \"") ++ ((flat_map quoted_char (chars c.args.second.now.text.now)) ++ (codes "\"\n")))) c.from_residual-in_err-write_bytes-2.result
           c.in_ok-write_bytes.ensures.sent
-          (Sends-after (taken c.write_bytes.new.out) (taken c.write_quoted.new.out) (taken c.write_bytes-2.new.out) (flat_map quoted_char c.args.first.now.word.text)
-          ((codes "\" \"") ++ ((flat_map quoted_char c.args.second.now.word.text) ++ (codes "\"\n"))) c.from_residual-in_err-write_bytes-2.result first
-          (stops_first (taken c.write_quoted.new.out) (taken c.write_bytes-2.new.out) _ (codes "\" \"") ((flat_map quoted_char c.args.second.now.word.text) ++ (codes "\"\n"))
+          (Sends-after (taken c.write_bytes.new.out) (taken c.write_quoted.new.out) (taken c.write_bytes-2.new.out) (flat_map quoted_char (chars c.args.first.now.text.now))
+          ((codes "\" \"") ++ ((flat_map quoted_char (chars c.args.second.now.text.now)) ++ (codes "\"\n"))) c.from_residual-in_err-write_bytes-2.result first
+          (stops_first (taken c.write_quoted.new.out) (taken c.write_bytes-2.new.out) _ (codes "\" \"") ((flat_map quoted_char (chars c.args.second.now.text.now)) ++ (codes "\"\n"))
           c.from_residual-in_err-write_bytes-2.result refl c.from_residual-in_err-write_bytes-2.ensures.0 c.in_err-write_bytes-2.ensures.sent));
       errors = search rules;
     }
@@ -49,18 +49,18 @@ returns-in_err-write_bytes-2 g c =
 pub returns-in_err-write_quoted-2 : goal.returns-in_err-write_quoted-2
 returns-in_err-write_quoted-2 g c =
     let taken = g.W.Sink.taken in
-    let first = rw c.text.ensures.characters at c.in_ok-write_quoted.ensures.sent in
-    let part = rw c.text-2.ensures.characters at c.in_err-write_quoted-2.ensures.sent in
+    let first = c.in_ok-write_quoted.ensures.sent in
+    let part = c.in_err-write_quoted-2.ensures.sent in
     record {
       sent = Sends-after (taken c.args.out.now) (taken c.write_bytes.new.out) (taken c.write_quoted-2.new.out) (codes "joined \"")
-          ((flat_map quoted_char c.args.first.now.word.text) ++ ((codes "\" \"") ++ ((flat_map quoted_char c.args.second.now.word.text) ++
+          ((flat_map quoted_char (chars c.args.first.now.text.now)) ++ ((codes "\" \"") ++ ((flat_map quoted_char (chars c.args.second.now.text.now)) ++
           (codes "\"\n")))) c.from_residual-in_err-write_quoted-2.result
           c.in_ok-write_bytes.ensures.sent
-          (Sends-after (taken c.write_bytes.new.out) (taken c.write_quoted.new.out) (taken c.write_quoted-2.new.out) (flat_map quoted_char c.args.first.now.word.text)
-          ((codes "\" \"") ++ ((flat_map quoted_char c.args.second.now.word.text) ++ (codes "\"\n"))) c.from_residual-in_err-write_quoted-2.result first
+          (Sends-after (taken c.write_bytes.new.out) (taken c.write_quoted.new.out) (taken c.write_quoted-2.new.out) (flat_map quoted_char (chars c.args.first.now.text.now))
+          ((codes "\" \"") ++ ((flat_map quoted_char (chars c.args.second.now.text.now)) ++ (codes "\"\n"))) c.from_residual-in_err-write_quoted-2.result first
           (Sends-after (taken c.write_quoted.new.out) (taken c.write_bytes-2.new.out) (taken c.write_quoted-2.new.out) (codes "\" \"")
-          ((flat_map quoted_char c.args.second.now.word.text) ++ (codes "\"\n")) c.from_residual-in_err-write_quoted-2.result c.in_ok-write_bytes-2.ensures.sent
-          (stops_first (taken c.write_bytes-2.new.out) (taken c.write_quoted-2.new.out) _ (flat_map quoted_char c.args.second.now.word.text) (codes "\"\n") c.from_residual-in_err-write_quoted-2.result
+          ((flat_map quoted_char (chars c.args.second.now.text.now)) ++ (codes "\"\n")) c.from_residual-in_err-write_quoted-2.result c.in_ok-write_bytes-2.ensures.sent
+          (stops_first (taken c.write_bytes-2.new.out) (taken c.write_quoted-2.new.out) _ (flat_map quoted_char (chars c.args.second.now.text.now)) (codes "\"\n") c.from_residual-in_err-write_quoted-2.result
           refl c.from_residual-in_err-write_quoted-2.ensures.0 part)));
       errors = search rules;
     }
@@ -68,18 +68,18 @@ returns-in_err-write_quoted-2 g c =
 pub returns : goal.returns
 returns g c =
     let taken = g.W.Sink.taken in
-    let first = rw c.text.ensures.characters at c.in_ok-write_quoted.ensures.sent in
-    let second = rw c.text-2.ensures.characters at c.in_ok-write_quoted-2.ensures.sent in
+    let first = c.in_ok-write_quoted.ensures.sent in
+    let second = c.in_ok-write_quoted-2.ensures.sent in
     record {
       sent = Sends-after (taken c.args.out.now) (taken c.write_bytes.new.out) (taken c.write_bytes-3.new.out) (codes "joined \"")
-          ((flat_map quoted_char c.args.first.now.word.text) ++ ((codes "\" \"") ++ ((flat_map quoted_char c.args.second.now.word.text) ++ (codes "\"\n")))) c.write_bytes-3.result
+          ((flat_map quoted_char (chars c.args.first.now.text.now)) ++ ((codes "\" \"") ++ ((flat_map quoted_char (chars c.args.second.now.text.now)) ++ (codes "\"\n")))) c.write_bytes-3.result
           c.in_ok-write_bytes.ensures.sent
-          (Sends-after (taken c.write_bytes.new.out) (taken c.write_quoted.new.out) (taken c.write_bytes-3.new.out) (flat_map quoted_char c.args.first.now.word.text)
-          ((codes "\" \"") ++ ((flat_map quoted_char c.args.second.now.word.text) ++ (codes "\"\n"))) c.write_bytes-3.result first
-          (Sends-after (taken c.write_quoted.new.out) (taken c.write_bytes-2.new.out) (taken c.write_bytes-3.new.out) (codes "\" \"") ((flat_map quoted_char c.args.second.now.word.text) ++
+          (Sends-after (taken c.write_bytes.new.out) (taken c.write_quoted.new.out) (taken c.write_bytes-3.new.out) (flat_map quoted_char (chars c.args.first.now.text.now))
+          ((codes "\" \"") ++ ((flat_map quoted_char (chars c.args.second.now.text.now)) ++ (codes "\"\n"))) c.write_bytes-3.result first
+          (Sends-after (taken c.write_quoted.new.out) (taken c.write_bytes-2.new.out) (taken c.write_bytes-3.new.out) (codes "\" \"") ((flat_map quoted_char (chars c.args.second.now.text.now)) ++
           (codes "\"\n"))
           c.write_bytes-3.result c.in_ok-write_bytes-2.ensures.sent
-          (Sends-after (taken c.write_bytes-2.new.out) (taken c.write_quoted-2.new.out) (taken c.write_bytes-3.new.out) (flat_map quoted_char c.args.second.now.word.text) (codes "\"\n")
+          (Sends-after (taken c.write_bytes-2.new.out) (taken c.write_quoted-2.new.out) (taken c.write_bytes-3.new.out) (flat_map quoted_char (chars c.args.second.now.text.now)) (codes "\"\n")
           c.write_bytes-3.result second
           c.write_bytes-3.ensures.sent)));
       errors = search rules;
