@@ -1,11 +1,14 @@
 pub mod DeclaredLemmas
 pub mod FirstLemmas
 pub mod KeptLemmas
+pub mod KeyLeadLemmas
 pub mod LeadLemmas
+pub mod LentLemmas
 pub mod LetterLemmas
 pub mod LetterOrders
 pub mod ListedKeyLemmas
 pub mod ListedLemmas
+pub mod MemberLemmas
 pub mod NeighbourLemmas
 pub mod NumberLemmas
 pub mod OrderedWords

@@ -3,7 +3,7 @@ use Rattle.std.proofs.Common.{◌≡◌, ℕ, ◌+◌, ◌-◌, ◌<◌, ◌≤�
 use Rattle.std.proofs.Common.{refl, sym, ap, ap₂, subst, ◌∙◌, arith, true≢false, length-append}
 use Rattle.std.specs.Cmp.{IsStrictWeakOrder}
 use Rattle.std.specs.List.{filter}
-use Rattle.std.specs.List.Sorted.{IsSorted, IsSortedBy, ties}
+use Rattle.std.specs.List.Sorted.{IsPermutation, IsSorted, IsSortedBy, ties}
 use Rattle.std.specs.Ordering.{is_lt, ordering_then}
 use Rattle.std.proofs.lemmas.Bool.{cases_lt}
 use Rattle.std.proofs.lemmas.Cmp.{nat_list_cmp_total}
@@ -18,11 +18,15 @@ use Rattle.coll_nodes.specs.WellFormed.{IsWellFormed}
 use Rattle.coll_key.specs.SortKey.{key_of}
 use Rattle.coll_key.specs.TextOrder.{list_order, order_of}
 use Rattle.coll_key.proofs.KeyOrder.{keys_in_order, All-first, All-others}
-use Rattle.coll_words.specs.FirstKeys.{AreFirstKeyed, packed_first_key}
+use Rattle.coll_words.specs.FirstKeys.{packed_first_key}
 use Rattle.coll_words.specs.KeyedWords.{KeyedWord, AreSortedByKeys, has_less_key, texts_of}
+use Rattle.coll_words.specs.LentWords.{AreDigits, IsLedFirst}
 use Rattle.coll_words.specs.SortedWords.{AreSorted}
 use Rattle.coll_words.specs.TiedWords.{AreAlike, EndsRun}
 use Rattle.coll_words.proofs.FirstLemmas.{first_decides}
+use Rattle.coll_words.proofs.KeyLeadLemmas.{lead_less}
+use Rattle.coll_words.proofs.LentLemmas.{less_behind}
+use Rattle.coll_words.proofs.MemberLemmas.{stable_by_members}
 
 -- What passes tests.
 
@@ -194,58 +198,13 @@ module _ (table : Collation) (well : IsWellFormed table) where
           ∙ sym (filter_append (ties is_less text) before behind);
     }
 
-  -- Words with what they are sorted by first.
-
-  -- a text as a word
-  abbrev keyed : List ℕ → KeyedWord
-  keyed text = record { text = text; key = packed_first_key table text }
-
-  -- a word has its key
-  abbrev IsFirst : KeyedWord → Type 0
-  IsFirst word = word.key ≡ packed_first_key table word.text
-
-  -- a word with a lesser key is less
-  first_less : (word other : KeyedWord) → IsFirst word → IsFirst other → has_less_key word other ≡ true → is_less word.text other.text ≡ true
-  first_less word other is other_is less =
-      less_decides (list_order (packed_first_key table word.text) (packed_first_key table other.text)) (order_of table word.text other.text) (first_decides table well word.text other.text)
-      (sym (ap₂ (λ (key other_key : List ℕ). is_lt (list_order key other_key)) is other_is) ∙ less)
-
-  -- so words that tie have keys that tie
-  ties_first : (word other : KeyedWord) → IsFirst word → IsFirst other → ties is_less word.text other.text ≡ true → ties has_less_key word other ≡ true
-  ties_first word other is other_is tie =
-      none_less (has_less_key word other) (has_less_key other word)
-      (by_test (λ b. b ≡ false) (has_less_key word other)
-      (λ on. sym (first_less word other is other_is on) ∙ first_not_less (is_less word.text other.text) (is_less other.text word.text) tie)
-      (λ off. refl))
-      (by_test (λ b. b ≡ false) (has_less_key other word)
-      (λ on. sym (first_less other word other_is is on) ∙ other_not_less (is_less word.text other.text) (is_less other.text word.text) tie)
-      (λ off. refl))
-
-  -- a text ties with words among those whose keys tie with its own
-  tied_among : (text : List ℕ) (words : List KeyedWord) → AreFirstKeyed table words
-      → filter (ties is_less text) (texts_of words) ≡ texts_of (filter (λ (word : KeyedWord). ties is_less text word.text) (filter (ties has_less_key (keyed text)) words))
-  tied_among text words all =
-      filter_map (ties is_less text) (λ (word : KeyedWord). word.text) words
-      ∙ ap texts_of
-      (filter_both (λ (word : KeyedWord). ties is_less text word.text) (ties has_less_key (keyed text)) words
-      (λ k d low tie. ties_first (keyed text) (get_or words k d) refl (all k d low) tie))
-
-  module _ (old first : List KeyedWord) (all : AreFirstKeyed table old) (sorted : AreSortedByKeys old first) where
-    -- words stay keyed
-    pub first_keyed : AreFirstKeyed table first
-    first_keyed = All-permutation IsFirst old first sorted.same all
-
-    -- words that were sorted by their keys, and then by the table, are sorted
-    pub sorted_through : (final : List (List ℕ)) → AreSorted table (texts_of first) final → AreSorted table (texts_of old) final
-    sorted_through final after = record {
-      same = IsPermutation-trans (texts_of old) (texts_of first) final (IsPermutation-map (λ (word : KeyedWord). word.text) old first sorted.same) after.same;
-      ordered = after.ordered;
-      stable = λ text.
-          after.stable text
-          ∙ tied_among text first first_keyed
-          ∙ ap (λ (words : List KeyedWord). texts_of (filter (λ (word : KeyedWord). ties is_less text word.text) words)) (sorted.stable (keyed text))
-          ∙ sym (tied_among text old all);
-    }
+  -- texts have an order
+  less_order : IsStrictWeakOrder is_less
+  less_order = record {
+    one_way = one_way;
+    chain = λ text other third not_less not_less_behind.
+        by_keys text third ∙ keys_order.chain text other third (sym (by_keys text other) ∙ not_less) (sym (by_keys other third) ∙ not_less_behind);
+  }
 
   -- Run by run.
 
@@ -265,114 +224,173 @@ module _ (table : Collation) (well : IsWellFormed table) where
       subst (λ (old : List KeyedWord). AreSorted table (texts_of old) (texts_of words)) (take_all place first (omega (arith, past, to.long)))
       (subst (λ (now : List KeyedWord). AreSorted table (texts_of (take place first)) (texts_of now)) (take_all place words past) to.done)
 
-  -- behind one run more
-  module _ (first words : List KeyedWord) (start end : ℕ) (all : AreFirstKeyed table first) (sorted : IsSortedBy has_less_key first) (to : IsSortedTo table first words start) (on : start < end)
-      (within : end ≤ length words) (ends : EndsRun words end) (run_now : List KeyedWord)
-      (run_sorted : AreSorted table (texts_of (mid_of start (end - start) words)) (texts_of run_now)) where
-    abbrev run : List KeyedWord
-    run = take (end - start) (drop start first)
+  -- Words with what they are sorted by first, behind its lead.
 
-    run_is : mid_of start (end - start) words ≡ run
-    run_is = ap (take (end - start)) to.left
+  module _ (numbers : List ℕ) (base room : ℕ) (digits : AreDigits numbers base) where
+    abbrev IsFirst : KeyedWord → Type 0
+    IsFirst word = IsLedFirst table numbers base room word
 
-    length_run : length run ≡ end - start
-    length_run = length-take-le (end - start) (drop start first) (omega (arith, within, to.long, length-drop start first))
+    -- a word with a lesser key is less
+    first_less : (word other : KeyedWord) → IsFirst word → IsFirst other → has_less_key word other ≡ true → is_less word.text other.text ≡ true
+    first_less word other is other_is less =
+        let key = packed_first_key table word.text in
+        let other_key = packed_first_key table other.text in
+        less_decides (list_order key other_key) (order_of table word.text other.text) (first_decides table well word.text other.text)
+        (less_behind is.lead other_is.lead key other_key (λ low. lead_less numbers base digits.rising digits.less room 0 key other_key is.lead other_is.lead is.leads other_is.leads low)
+        (sym (ap₂ (λ (led other_led : List ℕ). is_lt (list_order led other_led)) is.is other_is.is) ∙ less))
 
-    length_run_now : length run_now ≡ end - start
-    length_run_now =
-        sym (length-map run_now (λ (word : KeyedWord). word.text))
-        ∙ length_permutation (texts_of (mid_of start (end - start) words)) (texts_of run_now) run_sorted.same
-        ∙ length-map (mid_of start (end - start) words) (λ (word : KeyedWord). word.text)
-        ∙ ap length run_is
-        ∙ length_run
+    -- so words that tie have keys that tie
+    ties_first : (word other : KeyedWord) → IsFirst word → IsFirst other → ties is_less word.text other.text ≡ true → ties has_less_key word other ≡ true
+    ties_first word other is other_is tie =
+        none_less (has_less_key word other) (has_less_key other word)
+        (by_test (λ b. b ≡ false) (has_less_key word other)
+        (λ on. sym (first_less word other is other_is on) ∙ first_not_less (is_less word.text other.text) (is_less other.text word.text) tie)
+        (λ off. refl))
+        (by_test (λ b. b ≡ false) (has_less_key other word)
+        (λ on. sym (first_less other word other_is is on) ∙ other_not_less (is_less word.text other.text) (is_less other.text word.text) tie)
+        (λ off. refl))
 
-    abbrev words_now : List KeyedWord
-    words_now = put_mid start (end - start) words run_now
+    -- a word ties with words among those whose keys tie with its own
+    tied_among : (word : KeyedWord) → IsFirst word → (words : List KeyedWord) → All IsFirst words
+        → filter (ties is_less word.text) (texts_of words) ≡ texts_of (filter (λ (other : KeyedWord). ties is_less word.text other.text) (filter (ties has_less_key word) words))
+    tied_among word is words all =
+        filter_map (ties is_less word.text) (λ (other : KeyedWord). other.text) words
+        ∙ ap texts_of
+        (filter_both (λ (other : KeyedWord). ties is_less word.text other.text) (ties has_less_key word) words
+        (λ k d low tie. ties_first word (get_or words k d) is (all k d low) tie))
 
-    start_within : start ≤ length words
-    start_within = omega (arith, on, within)
+    module _ (old first : List KeyedWord) (all : All IsFirst old) (sorted : AreSortedByKeys old first) where
+      -- what ties with a word stays in its order
+      tied_alike : (word : KeyedWord) → IsFirst word → filter (ties is_less word.text) (texts_of first) ≡ filter (ties is_less word.text) (texts_of old)
+      tied_alike word is =
+          tied_among word is first (All-permutation IsFirst old first sorted.same all)
+          ∙ ap (λ (words : List KeyedWord). texts_of (filter (λ (other : KeyedWord). ties is_less word.text other.text) words)) (sorted.stable word)
+          ∙ sym (tied_among word is old all)
 
-    taken_now : take end words_now ≡ take start words ++ run_now
-    taken_now = take-put_mid start (end - start) words run_now end (omega (arith, length_run_now, on)) start_within
+      moved_texts : IsPermutation (texts_of old) (texts_of first)
+      moved_texts = IsPermutation-map (λ (word : KeyedWord). word.text) old first sorted.same
 
-    taken_first : take end first ≡ take start first ++ run
-    taken_first =
-        let whole : end ≡ start + (end - start) = omega (arith, on) in
-        ap (λ (n : ℕ). take n first) whole ∙ take_on start (end - start) first
+      -- so words that were sorted by their keys, and then by the table, are sorted
+      pub sorted_through : (final : List (List ℕ)) → AreSorted table (texts_of first) final → AreSorted table (texts_of old) final
+      sorted_through final after = record {
+        same = IsPermutation-trans (texts_of old) (texts_of first) final moved_texts after.same;
+        ordered = after.ordered;
+        stable = λ text.
+            after.stable text
+            ∙ stable_by_members is_less less_order (texts_of old) (texts_of first) moved_texts
+            (All-map (λ (text : List ℕ). filter (ties is_less text) (texts_of first) ≡ filter (ties is_less text) (texts_of old)) (λ (word : KeyedWord). word.text) old
+            (λ k d low. tied_alike (get_or old k d) (all k d low)))
+            text;
+      }
 
-    left_now : drop end words_now ≡ drop end first
-    left_now =
-        drop-put_mid start (end - start) words run_now end (omega (arith, on)) start_within length_run_now
-        ∙ left_on words first to.left
-      where
-        left_on : (xs ys : List KeyedWord) → drop start xs ≡ drop start ys → drop end xs ≡ drop end ys
-        left_on xs ys same =
-            let whole : start + (end - start) ≡ end = omega (arith, on) in
-            ap (λ (n : ℕ). drop n xs) (sym whole)
-            ∙ sym (drop-drop (end - start) start xs)
-            ∙ ap (drop (end - start)) same
-            ∙ drop-drop (end - start) start ys
-            ∙ ap (λ (n : ℕ). drop n ys) whole
+    -- behind one run more
+    module _ (first words : List KeyedWord) (start end : ℕ) (all : All IsFirst first) (sorted : IsSortedBy has_less_key first) (to : IsSortedTo table first words start) (on : start < end)
+        (within : end ≤ length words) (ends : EndsRun words end) (run_now : List KeyedWord)
+        (run_sorted : AreSorted table (texts_of (mid_of start (end - start) words)) (texts_of run_now)) where
+      abbrev run : List KeyedWord
+      run = take (end - start) (drop start first)
 
-    texts_apart : All (λ (text : List ℕ). All (λ (other : List ℕ). is_less text other ≡ true) (texts_of run)) (texts_of (take start first))
-    texts_apart =
-        All-map (λ (text : List ℕ). All (λ (other : List ℕ). is_less text other ≡ true) (texts_of run)) (λ (word : KeyedWord). word.text) (take start first)
-        (λ k d low.
-        let word = get_or (take start first) k d in
-        All-map (λ (other : List ℕ). is_less word.text other ≡ true) (λ (other : KeyedWord). other.text) run
-        (λ j e high.
-        first_less word (get_or run j e) (All-take IsFirst start first all k d low) (All-take IsFirst (end - start) (drop start first) (All-drop IsFirst start first all) j e high)
-        (All-take (λ (other : KeyedWord). has_less_key word other ≡ true) (end - start) (drop start first) (to.apart k d low) j e high)))
+      run_is : mid_of start (end - start) words ≡ run
+      run_is = ap (take (end - start)) to.left
 
-    done_now : AreSorted table (texts_of (take end first)) (texts_of (take end words_now))
-    done_now =
-        let text = λ (word : KeyedWord). word.text in
-        subst (λ (old : List (List ℕ)). AreSorted table old (texts_of (take end words_now))) (sym (ap texts_of taken_first ∙ map-append text (take start first) run))
-        (subst (λ (now : List (List ℕ)). AreSorted table (texts_of (take start first) ++ texts_of run) now) (sym (ap texts_of taken_now ∙ map-append text (take start words) run_now))
-        (sorted_beside (texts_of (take start first)) (texts_of (take start words)) (texts_of run) (texts_of run_now) to.done
-        (subst (λ (old : List KeyedWord). AreSorted table (texts_of old) (texts_of run_now)) run_is run_sorted) texts_apart))
+      length_run : length run ≡ end - start
+      length_run = length-take-le (end - start) (drop start first) (omega (arith, within, to.long, length-drop start first))
 
-    -- a word that isn't reached yet
-    same_at : (i : ℕ) (d : KeyedWord) → start ≤ i → get_or words i d ≡ get_or first i d
-    same_at i d low =
-        let whole : start + (i - start) ≡ i = omega (arith, low) in
-        ap (λ (n : ℕ). get_or words n d) (sym whole)
-        ∙ sym (get_or-drop start words (i - start) d)
-        ∙ ap (λ (left : List KeyedWord). get_or left (i - start) d) to.left
-        ∙ get_or-drop start first (i - start) d
-        ∙ ap (λ (n : ℕ). get_or first n d) whole
+      length_run_now : length run_now ≡ end - start
+      length_run_now =
+          sym (length-map run_now (λ (word : KeyedWord). word.text))
+          ∙ length_permutation (texts_of (mid_of start (end - start) words)) (texts_of run_now) run_sorted.same
+          ∙ length-map (mid_of start (end - start) words) (λ (word : KeyedWord). word.text)
+          ∙ ap length run_is
+          ∙ length_run
 
-    apart_now_at : AreApartAt first end
-    apart_now_at k d low j e high =
-        let count = length-drop end first in
-        let before : k < end = omega (arith, low, length-take end first) in
-        let here : end + j < length first = omega (arith, high, count) in
-        ⊎_elim
-        (λ (last : end ≡ length words). absurd (omega (arith, last, to.long, here)))
-        (λ (less : (d : KeyedWord) → has_less_key (get_or words (end - 1) d) (get_or words end d) ≡ true).
-        let behind : end - 1 + 1 ≡ end = omega (arith, on) in
-        let differ : has_less_key (get_or first (end - 1) d) (get_or first (end - 1 + 1) d) ≡ true =
-        ap₂ has_less_key (sym (same_at (end - 1) d (omega (arith, on)))) (ap (λ (n : ℕ). get_or first n d) behind ∙ sym (same_at end d (omega (arith, on)))) ∙ less d in
-        ap₂ has_less_key (get_or-take end first k d before) (get_or-drop end first j e ∙ get_or_default first (end + j) e d here)
-        ∙ apart_from first sorted (end - 1) d (omega (arith, behind, here)) differ k (end + j) (omega (arith, before)) (omega (arith, behind)) here)
-        ends
+      abbrev words_now : List KeyedWord
+      words_now = put_mid start (end - start) words run_now
 
-    pub sorted_on : IsSortedTo table first words_now end
-    sorted_on = record {
-      within = omega (arith, within, to.long);
-      long = omega (
-        arith,
-        to.long,
-        on,
-        within,
-        length_run_now,
-        length-append (take start words) (run_now ++ drop (end - start) (drop start words)),
-        length-append run_now (drop (end - start) (drop start words)),
-        length-take-le start words start_within,
-        length-drop (end - start) (drop start words),
-        length-drop start words,
-      );
-      left = left_now;
-      done = done_now;
-      apart = apart_now_at;
-    }
+      start_within : start ≤ length words
+      start_within = omega (arith, on, within)
+
+      taken_now : take end words_now ≡ take start words ++ run_now
+      taken_now = take-put_mid start (end - start) words run_now end (omega (arith, length_run_now, on)) start_within
+
+      taken_first : take end first ≡ take start first ++ run
+      taken_first =
+          let whole : end ≡ start + (end - start) = omega (arith, on) in
+          ap (λ (n : ℕ). take n first) whole ∙ take_on start (end - start) first
+
+      left_now : drop end words_now ≡ drop end first
+      left_now =
+          drop-put_mid start (end - start) words run_now end (omega (arith, on)) start_within length_run_now
+          ∙ left_on words first to.left
+        where
+          left_on : (xs ys : List KeyedWord) → drop start xs ≡ drop start ys → drop end xs ≡ drop end ys
+          left_on xs ys same =
+              let whole : start + (end - start) ≡ end = omega (arith, on) in
+              ap (λ (n : ℕ). drop n xs) (sym whole)
+              ∙ sym (drop-drop (end - start) start xs)
+              ∙ ap (drop (end - start)) same
+              ∙ drop-drop (end - start) start ys
+              ∙ ap (λ (n : ℕ). drop n ys) whole
+
+      texts_apart : All (λ (text : List ℕ). All (λ (other : List ℕ). is_less text other ≡ true) (texts_of run)) (texts_of (take start first))
+      texts_apart =
+          All-map (λ (text : List ℕ). All (λ (other : List ℕ). is_less text other ≡ true) (texts_of run)) (λ (word : KeyedWord). word.text) (take start first)
+          (λ k d low.
+          let word = get_or (take start first) k d in
+          All-map (λ (other : List ℕ). is_less word.text other ≡ true) (λ (other : KeyedWord). other.text) run
+          (λ j e high.
+          first_less word (get_or run j e) (All-take IsFirst start first all k d low) (All-take IsFirst (end - start) (drop start first) (All-drop IsFirst start first all) j e high)
+          (All-take (λ (other : KeyedWord). has_less_key word other ≡ true) (end - start) (drop start first) (to.apart k d low) j e high)))
+
+      done_now : AreSorted table (texts_of (take end first)) (texts_of (take end words_now))
+      done_now =
+          let text = λ (word : KeyedWord). word.text in
+          subst (λ (old : List (List ℕ)). AreSorted table old (texts_of (take end words_now))) (sym (ap texts_of taken_first ∙ map-append text (take start first) run))
+          (subst (λ (now : List (List ℕ)). AreSorted table (texts_of (take start first) ++ texts_of run) now) (sym (ap texts_of taken_now ∙ map-append text (take start words) run_now))
+          (sorted_beside (texts_of (take start first)) (texts_of (take start words)) (texts_of run) (texts_of run_now) to.done
+          (subst (λ (old : List KeyedWord). AreSorted table (texts_of old) (texts_of run_now)) run_is run_sorted) texts_apart))
+
+      -- a word that isn't reached yet
+      same_at : (i : ℕ) (d : KeyedWord) → start ≤ i → get_or words i d ≡ get_or first i d
+      same_at i d low =
+          let whole : start + (i - start) ≡ i = omega (arith, low) in
+          ap (λ (n : ℕ). get_or words n d) (sym whole)
+          ∙ sym (get_or-drop start words (i - start) d)
+          ∙ ap (λ (left : List KeyedWord). get_or left (i - start) d) to.left
+          ∙ get_or-drop start first (i - start) d
+          ∙ ap (λ (n : ℕ). get_or first n d) whole
+
+      apart_now_at : AreApartAt first end
+      apart_now_at k d low j e high =
+          let count = length-drop end first in
+          let before : k < end = omega (arith, low, length-take end first) in
+          let here : end + j < length first = omega (arith, high, count) in
+          ⊎_elim
+          (λ (last : end ≡ length words). absurd (omega (arith, last, to.long, here)))
+          (λ (less : (d : KeyedWord) → has_less_key (get_or words (end - 1) d) (get_or words end d) ≡ true).
+          let behind : end - 1 + 1 ≡ end = omega (arith, on) in
+          let differ : has_less_key (get_or first (end - 1) d) (get_or first (end - 1 + 1) d) ≡ true =
+          ap₂ has_less_key (sym (same_at (end - 1) d (omega (arith, on)))) (ap (λ (n : ℕ). get_or first n d) behind ∙ sym (same_at end d (omega (arith, on)))) ∙ less d in
+          ap₂ has_less_key (get_or-take end first k d before) (get_or-drop end first j e ∙ get_or_default first (end + j) e d here)
+          ∙ apart_from first sorted (end - 1) d (omega (arith, behind, here)) differ k (end + j) (omega (arith, before)) (omega (arith, behind)) here)
+          ends
+
+      pub sorted_on : IsSortedTo table first words_now end
+      sorted_on = record {
+        within = omega (arith, within, to.long);
+        long = omega (
+          arith,
+          to.long,
+          on,
+          within,
+          length_run_now,
+          length-append (take start words) (run_now ++ drop (end - start) (drop start words)),
+          length-append run_now (drop (end - start) (drop start words)),
+          length-take-le start words start_within,
+          length-drop (end - start) (drop start words),
+          length-drop start words,
+        );
+        left = left_now;
+        done = done_now;
+        apart = apart_now_at;
+      }

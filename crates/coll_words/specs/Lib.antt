@@ -3,8 +3,10 @@ pub mod ElementMarks
 pub mod FirstKeys
 pub mod FirstNumbers
 pub mod KeptWords
+pub mod KeyLeads
 pub mod KeyedWords
 pub mod LedWords
+pub mod LentWords
 pub mod LetterWeights
 pub mod ListedKeys
 pub mod ListedWords

@@ -1,16 +1,14 @@
 //! Words with keys that are lent, which are sorted by these.
 //!
-//! The first four numbers of a key stand beside the word as two numbers of 64 bits. They decide nearly always, by one comparison or
-//! two, so that the key mostly needn't be looked up in memory.
+//! The lead of a key (`key_leads`) stands beside the word. It mostly decides, by one comparison, so that few keys need be looked up in
+//! memory. Words are seen with the lead as the first number of the key, so the order of two words is that of these lists.
 
-ghost use Rattle.std.specs.Prelude.{◌≡◌, ◌≤◌, chars, OnOk};
+ghost use Rattle.std.specs.Prelude.{◌≡◌, ◌∷◌, chars, OnOk};
 ghost use Rattle.std.specs.Str.{IsUtf8};
 ghost use Rattle.coll_devices.specs.Devices.{Writes};
 ghost use Rattle.coll_words.specs.KeyedWords.{AreSortedByKeys, texts_of};
-ghost use Rattle.coll_words.specs.LedWords.{IsPair, pair_at};
 ghost use Rattle.coll_words.specs.Words.{written_word, written_words};
 
-use crate::words::number_at;
 use coll_devices::{Sink, WriteStop};
 use coll_texts::{Piece, write_pieces};
 use std::alloc::AllocError;
@@ -20,9 +18,8 @@ use std::marker::Model;
 /// A word with a key, both of which stand elsewhere.
 #[derive(Drop)]
 pub(crate) struct LentWord<'a> {
-    // The first two numbers of the key, and the next two.
-    first: u64,
-    next: u64,
+    // The lead of the key, or 0 in each of the words that are sorted together.
+    lead: u64,
     // The key, packed.
     key: &'a [u32],
     // The text, in UTF-8.
@@ -30,31 +27,26 @@ pub(crate) struct LentWord<'a> {
 }
 
 impl<'a> Model for LentWord<'a> {
-    ghost use Rattle.std.specs.Prelude.{chars};
+    ghost use Rattle.std.specs.Prelude.{◌∷◌, chars};
+    ghost use Rattle.std.specs.Str.{IsUtf8};
     ghost use Rattle.coll_words.specs.KeyedWords.{KeyedWord};
-    ghost use Rattle.coll_words.specs.LedWords.{IsLedByPairs};
 
     ghost Value = { KeyedWord };
 
-    ghost view = { λ w. record { text = chars w.text.now; key = w.key.now } };
+    ghost view = { λ w. record { text = chars w.text.now; key = w.lead ∷ w.key.now } };
 
-    ghost invariant = { IsLedByPairs };
+    ghost invariant = { λ w. IsUtf8 w.text.now };
 }
 
 impl<'a> LentWord<'a> {
     ghost use Rattle.coll_key.specs.TextOrder.{list_order};
 
-    /// A word with this text and this key.
-    pub fn new(text: &'a [u8], key: &'a [u32]) -> LentWord<'a>
+    /// A word with this text and this key, behind its lead.
+    pub fn new(lead: u64, text: &'a [u8], key: &'a [u32]) -> LentWord<'a>
         requires { IsUtf8 text.now }
-        ensures { result ≡ record { text = chars text.now; key = key.now } }
+        ensures { result ≡ record { text = chars text.now; key = lead ∷ key.now } }
     {
-        LentWord {
-            first: pair_at(key, 0),
-            next: pair_at(key, 2),
-            key,
-            text,
-        }
+        LentWord { lead, key, text }
     }
 
     /// The bytes of its text.
@@ -77,23 +69,11 @@ impl<'a> LentWord<'a> {
     pub fn order(&self, other: &LentWord<'_>) -> Ordering
         ensures { result ≡ list_order self.now.key other.now.key }
     {
-        if self.first != other.first {
-            return self.first.cmp(&other.first);
-        }
-        if self.next != other.next {
-            return self.next.cmp(&other.next);
+        if self.lead != other.lead {
+            return self.lead.cmp(&other.lead);
         }
         self.key.cmp(other.key)
     }
-}
-
-// Two numbers of a key as one, from a place on, with 0 in place of those that it hasn't.
-fn pair_at(key: &[u32], place: usize) -> u64
-    requires { place ≤ 2 }
-    ensures numbers { result ≡ pair_at place key.now }
-    ensures pair { IsPair place key.now }
-{
-    u64::from(number_at(key, place)) * 4_294_967_296 + u64::from(number_at(key, place + 1))
 }
 
 /// Sorts words by their keys. Words with equal keys keep their order.

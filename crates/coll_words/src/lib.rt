@@ -8,7 +8,8 @@
 //! - `reading`: the words of an input (`Words`, `WordReading`), put into what `taking_words` says, and `word_texts`: the same without
 //!   keys (`WordTexts`);
 //! - `stored_words`: many words in few blocks of memory (`StoredWords`), with what they are sorted by first, which `first_keys` makes
-//!   (`FirstKeys`); `lent_words`, which are sorted; and `tied_words`, which are sorted by their whole keys;
+//!   (`FirstKeys`); `key_leads`, what these keys begin with as one number (`KeyLeads`); `lent_words`, which are sorted (`LentWords`); and
+//!   `tied_words`, which are sorted by their whole keys;
 //! - `sorting`: the words of an input are sorted, and written (`SortRuns`);
 //! - `reviewing`: statements are put to a table one by one, and of each it is told what it did to the words of an input
 //!   (`ReviewRuns`). The words are kept by `numbered_words` (`NumberedWords`, `KeptWords`), and `listed_words` has the list of them that
@@ -25,6 +26,7 @@ mod element_marks;
 mod first_keys;
 mod first_numbers;
 mod kept_bytes;
+mod key_leads;
 mod lent_words;
 mod letter_weights;
 mod letters;

@@ -4,15 +4,17 @@
 //! do all keys, and a word is where its own begin and end: so many words ask for hardly more blocks than one, and take less. A key is
 //! what `first_keys` makes, right where it stays; `lent_words` has the sort.
 
-ghost use Rattle.std.specs.Prelude.{◌≡◌, ◌≢◌, ◌≤◌, [], ◌∷◌, ◌++◌, chars, length, true, false, IfErr, IfOk, OnOk};
+ghost use Rattle.std.specs.Prelude.{◌≡◌, ◌≢◌, ◌≤◌, [], ◌∷◌, ◌++◌, chars, length, true, false, IfErr, IfOk, IfSome, OnOk};
 ghost use Rattle.coll_nodes.specs.TableLayout.{collation};
 ghost use Rattle.coll_ranks.specs.Ranks.{AreRanksOf};
 ghost use Rattle.coll_key.specs.KeyLimits.{is_too_long};
 ghost use Rattle.coll_key.specs.declared.key_faults.KeyFault.TheVariants.{OutOfMemory};
 ghost use Rattle.coll_words.specs.FirstKeys.{packed_first_key};
+ghost use Rattle.coll_words.specs.LentWords.{AreLent, IsLent};
 ghost use Rattle.coll_words.specs.StoredWords.{ArePlaces, IsPlace, word_at, words_at};
 
 use crate::first_keys::with_first_key;
+use crate::key_leads::LeadDigits;
 use crate::lent_words::LentWord;
 use crate::reading::fault_at;
 use crate::taking_words::TakesWords;
@@ -45,6 +47,7 @@ pub(crate) struct StoredWords {
 impl Model for StoredWords {
     ghost use Rattle.std.specs.Prelude.{List};
     ghost use Rattle.coll_words.specs.KeyedWords.{KeyedWord};
+    ghost use Rattle.coll_words.specs.LentWords.{AreLent, IsLent};
     ghost use Rattle.coll_words.specs.StoredWords.{ArePlaces, words_at};
 
     ghost Value = { List KeyedWord };
@@ -111,23 +114,95 @@ impl StoredWords {
         }
     }
 
-    /// Lends the words one by one, in a list in new memory.
+    /// Lends the words one by one, in a list in new memory, with their leads. Words that are in order as they stand need none.
     pub fn lend(&self, alloc: Global) -> Result<Vec<LentWord<'_>>, AllocError>
-        ensures { IfOk result (λ words. words.items ≡ self.now) }
+        ensures { IfOk result (λ words. AreLent self.now words.items) }
     {
-        lent_at(alloc, &self.texts, &self.keys, &self.places)
+        if are_in_order(&self.keys, &self.places) {
+            return self.lend_plainly(alloc);
+        }
+        match self.lend_led(alloc)? {
+            Some(words) => Ok(words),
+            None => self.lend_plainly(alloc),
+        }
+    }
+
+    // Lends the words with the lead 0.
+    fn lend_plainly(&self, alloc: Global) -> Result<Vec<LentWord<'_>>, AllocError>
+        ensures { IfOk result (λ words. AreLent self.now words.items) }
+    {
+        lent_plainly(alloc, &self.texts, &self.keys, &self.places)
+    }
+
+    // Lends the words with their leads, if each number has a digit.
+    fn lend_led(&self, alloc: Global) -> Result<Option<Vec<LentWord<'_>>>, AllocError>
+        ensures { IfOk result (λ found. IfSome found (λ words. AreLent self.now words.items)) }
+    {
+        let digits = LeadDigits::of(alloc, &self.keys)?;
+        led_at(alloc, &digits, &self.texts, &self.keys, &self.places)
     }
 }
 
-// Lends the words at places, one by one, in a list in new memory.
-fn lent_at<'a>(
+// Whether no key is less than the one before it. It is only a guess, which spares the leads.
+fn are_in_order(keys: &[u32], places: &[WordPlace]) -> bool {
+    let mut last: &[u32] = &[];
+    for place in places {
+        let Some(key) = keys.get(place.key..place.key_end) else {
+            return false;
+        };
+        if key.cmp(last).is_lt() {
+            return false;
+        }
+        last = key;
+    }
+    true
+}
+
+// Lends the words at places, one by one, in a list in new memory, with the leads of their keys, if each number has a digit.
+fn led_at<'a>(
+    alloc: Global,
+    digits: &LeadDigits,
+    texts: &'a [u8],
+    keys: &'a [u32],
+    places: &[WordPlace],
+) -> Result<Option<Vec<LentWord<'a>>>, AllocError>
+    requires { ArePlaces texts.now keys.now places.now }
+    ensures { IfOk result (λ found. IfSome found (λ words. AreLent (words_at texts.now keys.now places.now) words.items)) }
+{
+    let mut words = Vec::with_capacity(alloc, places.len())?;
+    for place in places {
+        match led(digits, texts, keys, place) {
+            Some(word) => words.push(word)?,
+            None => return Ok(None),
+        }
+    }
+    Ok(Some(words))
+}
+
+// Lends the word at a place with the lead of its key, if it has one.
+fn led<'a>(
+    digits: &LeadDigits,
+    texts: &'a [u8],
+    keys: &'a [u32],
+    place: &WordPlace,
+) -> Option<LentWord<'a>>
+    requires { IsPlace texts.now keys.now place.now }
+    ensures { IfSome result (IsLent digits.now.numbers.items digits.now.base digits.now.count (word_at texts.now keys.now place.now)) }
+{
+    let key = &keys[place.key..place.key_end];
+    let lead = digits.lead(key)?;
+    Some(LentWord::new(lead, &texts[place.text..place.text_end], key))
+}
+
+// Lends the words at places, one by one, in a list in new memory, with the lead 0.
+fn lent_plainly<'a>(
     alloc: Global,
     texts: &'a [u8],
     keys: &'a [u32],
     places: &[WordPlace],
 ) -> Result<Vec<LentWord<'a>>, AllocError>
     requires { ArePlaces texts.now keys.now places.now }
-    ensures { IfOk result (λ words. words.items ≡ words_at texts.now keys.now places.now) }
+    ensures { IfOk result (λ words. AreLent (words_at texts.now keys.now places.now) words.items) }
 {
     let mut words = Vec::with_capacity(alloc, places.len())?;
     for place in places {
@@ -136,12 +211,13 @@ fn lent_at<'a>(
     Ok(words)
 }
 
-// Lends the word at a place.
+// Lends the word at a place with the lead 0.
 fn lent<'a>(texts: &'a [u8], keys: &'a [u32], place: &WordPlace) -> LentWord<'a>
     requires { IsPlace texts.now keys.now place.now }
-    ensures { result ≡ word_at texts.now keys.now place.now }
+    ensures { IsLent [] 1 0 (word_at texts.now keys.now place.now) result }
 {
     LentWord::new(
+        0,
         &texts[place.text..place.text_end],
         &keys[place.key..place.key_end],
     )

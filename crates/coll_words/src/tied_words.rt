@@ -8,8 +8,8 @@ ghost use Rattle.std.specs.List.Sorted.{IsSortedBy};
 ghost use Rattle.std.specs.Str.{IsUtf8};
 ghost use Rattle.coll_nodes.specs.TableLayout.{collation};
 ghost use Rattle.coll_ranks.specs.Ranks.{AreRanksOf};
-ghost use Rattle.coll_words.specs.FirstKeys.{AreFirstKeyed};
 ghost use Rattle.coll_words.specs.KeyedWords.{AreKeyed, AreSortedByKeys, has_less_key, texts_of};
+ghost use Rattle.coll_words.specs.LentWords.{AreLedFirst};
 ghost use Rattle.coll_words.specs.SortedWords.{AreSorted};
 ghost use Rattle.coll_words.specs.TiedWords.{AreAlike, EndsRun};
 
@@ -85,7 +85,7 @@ pub(crate) fn sort_ties(
     words: &mut [LentWord<'_>],
 ) -> Result<(), KeyFault>
     requires ranks { AreRanksOf ranks.now (collation table.now) }
-    requires keyed { AreFirstKeyed (collation table.now) words.old }
+    requires led { AreLedFirst (collation table.now) words.old }
     requires sorted { IsSortedBy has_less_key words.old }
     ensures { OnOk result (AreSorted (collation table.now) (texts_of words.old) (texts_of words.new)) }
 {

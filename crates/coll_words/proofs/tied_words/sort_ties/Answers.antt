@@ -6,5 +6,7 @@ use Rattle.coll_words.proofs.tied_words.sort_ties.Goals as goal
 pub runs-preserved : goal.runs-preserved
 runs-preserved c =
     let run = c.run_end-end.ensures in
-    sorted_on (collation c.args.table.now) c.lemma_well_formed.ensures.well_formed c.args.words.now c.runs.words c.runs.start c.run_end-end.result c.requires.keyed c.requires.sorted
+    let led = c.requires.led in
+    sorted_on (collation c.args.table.now) c.lemma_well_formed.ensures.well_formed led.numbers led.base led.room led.digits c.args.words.now c.runs.words c.runs.start c.run_end-end.result
+    led.led c.requires.sorted
     c.runs.invariant run.behind run.within run.ends c.sort_run.new.run c.in_default.ensures
