@@ -24,8 +24,9 @@ its output; or else one request of a session has the reply `refused 70 OutOfMemo
     lines     its lines, a value
     reply     its reply, a value; empty if left out
     behind    the replies of the requests behind it where this one has that reply, a value; left out where they stay as they are
+    memory    false where it takes no memory, so that no run has that reply to it; true if left out
 
-Each request has to be refused in some run. `spared` is how many growths can be spared. With `subcommand` it is one of that, in place of
+Each other request has to be refused in some run. `spared` is how many growths can be spared. With `subcommand` it is one of that, in place of
 a session, and what stands on standard error isn't looked at.
 
 A session, and a run that names a file as `source`, is repeated with each of its reads and writes refused as well. With a read refused
@@ -259,7 +260,8 @@ def refuse_to_served(shim, session):
 def refuse_to_session(shim, session):
     """Refuses each growth to a session. Returns how many were refused."""
     words, lines = words_of(session)
-    output, outputs = outputs_of(session["requests"])
+    output, refused = outputs_of(session["requests"])
+    outputs = [one for one, request in zip(refused, session["requests"]) if request.get("memory", True)]
     unseen, tells = set(outputs), "subcommand" in session
 
     def judge(ran):
@@ -271,10 +273,10 @@ def refuse_to_session(shim, session):
         unseen.discard(ran.output)
         return not is_whole
 
-    refused = shim.each([PROGRAM, *words], "program", judge, session["spared"], lines)
+    growths = shim.each([PROGRAM, *words], "program", judge, session["spared"], lines)
     if unseen:
         raise Failed(f"no run has {shown(min(unseen))}")
-    return refused
+    return growths
 
 
 def all_runs():
