@@ -1,9 +1,8 @@
 //! Keys for look-ups by hash.
 //!
 //! Whoever writes a text chooses its names. Under a hasher that is the same in every run they could be chosen so that all have one
-//! hash, and each look-up would go over all that came before. So names, strings and characters are looked up under keys, which
-//! are handed in: where a text can't know them, none can be chosen so. They decide how fast a name is found, and nothing else; the
-//! hasher may change.
+//! hash, and each look-up would go over all that came before. So names and strings are looked up under keys, which are handed in:
+//! where a text can't know them, none can be chosen so. They decide how fast a name is found, and nothing else; the hasher may change.
 
 ghost use Rattle.std.specs.Prelude.{◌≡◌};
 ghost use Rattle.coll_lookups.specs.HashKeys.{keyed};

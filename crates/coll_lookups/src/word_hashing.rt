@@ -1,6 +1,6 @@
 //! A hasher for short keys: SipHash-1-3, a word at a time.
 //!
-//! Names and characters are short, and each is one write. So a write is cut into words at once, and nothing is kept between two
+//! Names are short, and each is one write. So a write is cut into words at once, and nothing is kept between two
 //! writes but the four words of the state: a name of at most seven bytes is one word, which ends with their number. Which bytes were
 //! written is read back from the words of a write, so no two keys have the same words; the keys are made of `HashKeys`, and as hard
 //! to know (`specs/WordHashing.antt`). Which hasher serves a look-up decides how fast it is, and nothing else.

@@ -1,6 +1,6 @@
 //! The body of a table: what it declares, its sections and their entries, as nodes in rings.
 //!
-//! A `Body` has the nodes, look-ups by hash, and counts. Contracts see its layout (`specs/Bodies.antt`), from which
+//! A `Body` has the nodes, look-ups by key, and counts. Contracts see its layout (`specs/Bodies.antt`), from which
 //! `declared_at` and `sections_at` of `specs/TableLayout.antt` read the table. What stands in which ring, and that the look-ups
 //! find just the nodes that stand in a ring, is said in `specs/SoundBodies.antt` and `specs/BodyInvariant.antt`. Here it is read,
 //! and gets declarations, sections and entries; what names stand for is in `own_names`, and what is done with one node in
