@@ -10,7 +10,7 @@
 //! The strings of its elements, which it can't be asked for, are kept where the source declares an element. The table stands beside
 //! the names and not in them, so that meanings over none have nothing of a table.
 
-use crate::known_names::{Alike, KnownNames, Meaning, NameGuess, Taken};
+use crate::known_names::{Alike, EndedRange, KnownNames, Meaning, NameGuess, Taken};
 use crate::placed::Found;
 use crate::{DeclaredRange, SourceStatement};
 use coll_lex::{TextBuf, is_name};
@@ -287,8 +287,10 @@ impl DeclaredNames {
         report: &mut Report,
     ) -> Result<(), SourceFault> {
         report.count(Adjustment::SymbolRange, place)?;
-        if table.is_none() && self.may_keep_range(range)? {
-            return Ok(self.keep_range(place, range)?);
+        if table.is_none() {
+            if let Some(ended) = self.range_to_keep(range)? {
+                return Ok(self.keep_range(place, ended)?);
+            }
         }
         let mut room = String::new(self.alloc);
         for number in range.first..=range.last {
@@ -299,29 +301,38 @@ impl DeclaredNames {
         Ok(())
     }
 
-    // Whether a range is kept as it is: all its names can be declared, and none is. They are all alike in whether they are names.
-    fn may_keep_range(&self, range: &NameRange) -> Result<bool, AllocError> {
+    // A range as it is kept, if it is: all its names can be declared, and none is. They are all alike in whether they are names.
+    fn range_to_keep(&self, names: &NameRange) -> Result<Option<EndedRange>, AllocError> {
         if !self.keeps_ranges
-            || self.count().saturating_add(range.count()) > MOST_DECLARATIONS
-            || !self.names.may_put_range(range)
+            || self.count().saturating_add(names.count()) > MOST_DECLARATIONS
+            || !self.names.has_room_for(names)
         {
-            return Ok(false);
+            return Ok(None);
         }
-        let first = name_at(self.alloc, range, range.first)?;
-        let is_name = is_name(first.get());
-        drop(first);
-        Ok(is_name)
+        let range = ended_range(self.alloc, names)?;
+        if self.names.are_unknown(&range) && is_name(range.first.get()) {
+            return Ok(Some(range));
+        }
+        drop(range);
+        Ok(None)
     }
 
     // Declares each symbol of a range, which is kept as it is.
-    fn keep_range(&mut self, place: SourcePlace, range: &NameRange) -> Result<(), AllocError> {
-        let names = range.try_copy()?;
-        self.ranges.push(DeclaredRange {
-            place,
-            names,
-            before: self.declared.len(),
-        })?;
-        self.names.put_range(range)
+    fn keep_range(&mut self, place: SourcePlace, range: EndedRange) -> Result<(), AllocError> {
+        match range.names.try_copy() {
+            Ok(names) => {
+                self.ranges.push(DeclaredRange {
+                    place,
+                    names,
+                    before: self.declared.len(),
+                })?;
+                self.names.put_range(range)
+            }
+            Err(error) => {
+                drop(range);
+                Err(error)
+            }
+        }
     }
 
     // Declares an element, or makes its name stand for something that is there.
@@ -608,6 +619,17 @@ impl DeclaredNames {
             }
         }
     }
+}
+
+// A copy of a range, with the first and the last of its names.
+fn ended_range(alloc: Global, names: &NameRange) -> Result<EndedRange, AllocError> {
+    let first = name_at(alloc, names, names.first)?;
+    let last = name_at(alloc, names, names.last)?;
+    Ok(EndedRange {
+        first,
+        last,
+        names: names.try_copy()?,
+    })
 }
 
 // The own name of a name that the table declares.

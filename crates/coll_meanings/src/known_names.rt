@@ -4,9 +4,11 @@
 //! who asks for one after another hands a guess on, and a name that stands there is found without a hash.
 //!
 //! Nearly all symbols of a published table are those of a few ranges. A range none of whose names is known before is kept as it is, so
-//! its names take no memory and aren't hashed: whether it has a name is told by the letters and the digits of that.
+//! its names take no memory and aren't hashed: whether it has a name is told by the letters and the digits of that. The ranges stand in
+//! the order of their names, and no name of one stands between two of another, so a name is looked for in one of them, which is found by
+//! halves.
 
-ghost use Rattle.std.specs.Prelude.{◌≡◌};
+ghost use Rattle.std.specs.Prelude.{◌≡◌, ◌≤◌, vec_len};
 ghost use Rattle.std.specs.Str.{bytes_eq};
 ghost use Rattle.indexmap.specs.IndexMap.{index_of_by};
 ghost use Rattle.coll_meanings.specs.NameKeys.{bytes_of};
@@ -78,24 +80,36 @@ impl Alike {
     }
 }
 
-// Most ranges that are kept as they are: each name is looked for in all of them.
+// Most ranges that are kept as they are.
 const MOST_RANGES: usize = 64;
+
+/// A range of names, with the first and the last of them.
+#[derive(Drop)]
+pub(crate) struct EndedRange {
+    /// The first name.
+    pub(crate) first: TextBuf,
+    /// The last one.
+    pub(crate) last: TextBuf,
+    /// All names.
+    pub(crate) names: NameRange,
+}
 
 // The names of a range, each of them a symbol's, which a line of the source has declared.
 #[derive(Drop)]
 struct KnownRange {
-    names: NameRange,
-    // How many names the ranges before it have.
+    range: EndedRange,
+    // How many names the ranges have that were put in before it.
     before: usize,
 }
 
 impl KnownRange {
     // Which of the names of all ranges this one is, if it is one of these.
     fn place_of(&self, name: &str) -> Option<usize> {
-        let number = self.names.number(name)?;
+        let names = &self.range.names;
+        let number = names.number(name)?;
         Some(
             self.before
-                .saturating_add(number.saturating_sub(self.names.first) as usize),
+                .saturating_add(number.saturating_sub(names.first) as usize),
         )
     }
 }
@@ -122,7 +136,7 @@ impl NameGuess {
 pub(crate) struct KnownNames {
     // Those that stand alone.
     names: IndexMap<NameKey, Known, WordKeys>,
-    // Ranges that have no name of another one, or of those that stand alone.
+    // Ranges that have no name of those that stand alone, in the order of their names: all of one stand before all of the next.
     ranges: Vec<KnownRange>,
     // How many names they have.
     in_ranges: usize,
@@ -222,9 +236,7 @@ impl KnownNames {
 
     // Whether a name is one of a range.
     fn is_in_range(&self, name: &str) -> bool {
-        self.ranges
-            .iter()
-            .any(|range| range.names.number(name).is_some())
+        self.place_in(self.range_near(name), name).is_some()
     }
 
     // Which of the names of all ranges this one is, if it is one of these. It is looked for in the range of a guess first, which is its
@@ -233,13 +245,23 @@ impl KnownNames {
         if let Some(place) = self.place_in(*guess, name) {
             return Some(place);
         }
-        for at in 0..self.ranges.len() {
-            if let Some(place) = self.place_in(at, name) {
-                *guess = at;
-                return Some(place);
-            }
-        }
-        None
+        let range = self.range_near(name);
+        let place = self.place_in(range, name)?;
+        *guess = range;
+        Some(place)
+    }
+
+    // The number of the only range that may have a name; none has the number where no range may.
+    fn range_near(&self, name: &str) -> usize {
+        self.count_up_to(name).wrapping_sub(1)
+    }
+
+    // How many ranges begin with a name, or with one that stands before it.
+    fn count_up_to(&self, name: &str) -> usize
+        ensures { result ≤ vec_len self.now.ranges }
+    {
+        self.ranges
+            .partition_point(|known| !stands_before(name, known.range.first.get()))
     }
 
     // Which of the names of all ranges this one is, if the range of a number has it.
@@ -247,28 +269,44 @@ impl KnownNames {
         self.ranges.get(range)?.place_of(name)
     }
 
-    /// Whether a range can be kept as it is: nothing is known of any of its names, and looking for that takes no longer than to put them
-    /// in one by one.
-    pub(crate) fn may_put_range(&self, range: &NameRange) -> bool {
-        range.is_hexadecimal()
+    /// Whether there is room for a range that is kept as it is, if nothing is known of any of its names, and looking for that takes no
+    /// longer than to put them in one by one.
+    pub(crate) fn has_room_for(&self, names: &NameRange) -> bool {
+        names.is_hexadecimal()
             && self.ranges.len() < MOST_RANGES
-            && self.names.len() <= range.count()
-            && !self.ranges.iter().any(|known| known.names.meets(range))
+            && self.names.len() <= names.count()
+    }
+
+    /// Whether nothing is known of any of the names of a range, and none of them stands between two of a range that is kept.
+    pub(crate) fn are_unknown(&self, range: &EndedRange) -> bool {
+        self.is_apart(range)
             && !self
                 .names
                 .keys()
-                .any(|key| range.number(key.text()).is_some())
+                .any(|key| range.names.number(key.text()).is_some())
+    }
+
+    // Whether all names of a range stand behind those of one range, and before those of the next.
+    fn is_apart(&self, range: &EndedRange) -> bool {
+        let at = self.count_up_to(range.first.get());
+        let is_behind = match self.ranges.get(at.wrapping_sub(1)) {
+            Some(known) => stands_before(known.range.last.get(), range.first.get()),
+            None => true,
+        };
+        let is_before = match self.ranges.get(at) {
+            Some(known) => stands_before(range.last.get(), known.range.first.get()),
+            None => true,
+        };
+        is_behind && is_before
     }
 
     /// Makes each name of a range, of none of which anything is known, that of a symbol.
-    pub(crate) fn put_range(&mut self, range: &NameRange) -> Result<(), AllocError> {
-        let names = range.try_copy()?;
-        let count = names.count();
-        self.ranges.push(KnownRange {
-            names,
-            before: self.in_ranges,
-        })?;
-        self.in_ranges = self.in_ranges.saturating_add(count);
+    pub(crate) fn put_range(&mut self, range: EndedRange) -> Result<(), AllocError> {
+        let at = self.count_up_to(range.first.get());
+        let count = range.names.count();
+        let before = self.in_ranges;
+        self.ranges.insert(at, KnownRange { range, before })?;
+        self.in_ranges = before.saturating_add(count);
         Ok(())
     }
 
@@ -336,6 +374,15 @@ impl KnownNames {
         known.by_table = false;
         Some(taken)
     }
+}
+
+// Whether a name stands before another one: a shorter one does, and of one length those with less in the first bytes that differ. So the
+// names of a range of hexadecimal digits ascend with their numbers.
+fn stands_before(name: &str, other: &str) -> bool {
+    if name.len() != other.len() {
+        return name.len() < other.len();
+    }
+    name < other
 }
 
 // What is found of the name of a range that stands at this place among those of all ranges.
