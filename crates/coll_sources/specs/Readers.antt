@@ -6,7 +6,7 @@ use Rattle.coll_lex.specs.Names.{AreTokens}
 use Rattle.coll_sources.specs.Reports.{ReportValue}
 use Rattle.coll_sources.specs.declared.source_lines.SourceLine.{SourceLine}
 use Rattle.coll_sources.specs.declared.readers.Next.{Next}
-use Rattle.coll_sources.specs.declared.readers.Next.TheVariants.{Ended, Nothing, Read, Whole}
+use Rattle.coll_sources.specs.declared.readers.Next.TheVariants.{Ended, Nothing, Whole}
 
 -- the names of the texts, in the order in which they were wanted; how many of them are there; what is defined; the lines given so far;
 -- and what is told of them
@@ -25,7 +25,6 @@ is_defined reader name = list_any (λ word. bytes_eq name word) reader.defined
 abbrev pub HasTokens : Next → Type 0
 HasTokens Ended = Unit {0}
 HasTokens Nothing = Unit {0}
-HasTokens (Read line) = Unit {0}
 HasTokens (Whole line) = AreTokens line.tokens
 
 -- a device was read to its end, if its bytes were known

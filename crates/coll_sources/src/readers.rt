@@ -77,10 +77,8 @@ struct Frame {
 enum Next {
     // The text has ended.
     Ended,
-    // It completes no line that has a token.
+    // It completes no line that has a token, or one that was read where it stands, which is kept.
     Nothing,
-    // It completes a line that counts, which was read where it stands.
-    Read(SourceLine),
     // It completes a line.
     Whole(Line),
 }
@@ -472,10 +470,6 @@ impl SourceReader {
         match next {
             Next::Ended => Err(early_end(frame)),
             Next::Nothing => Ok(None),
-            Next::Read(line) => {
-                self.lines.push(line)?;
-                Ok(None)
-            }
             Next::Whole(line) => {
                 let halt = self.take(frame, &line);
                 drop(line);
@@ -503,7 +497,7 @@ impl SourceReader {
         self.bytes = self.bytes.saturating_add(line.len()).saturating_add(1);
         frame.at = behind;
         if frame.begun {
-            return within(self.alloc, frame, place, line);
+            return within(self.alloc, &mut self.lines, frame, place, line);
         }
         match frame.lexer.outside(line) {
             Ok(begins) => {
@@ -681,9 +675,10 @@ fn place_in(frame: &Frame) -> SourcePlace {
     }
 }
 
-// What a physical line of the category comes to: one that counts is read where it stands, if it can be.
+// What a physical line of the category comes to: one that counts is read where it stands, if it can be, and is put behind the lines before.
 fn within(
     alloc: Global,
+    lines: &mut Vec<SourceLine>,
     frame: &mut Frame,
     place: SourcePlace,
     line: &[u8],
@@ -697,7 +692,8 @@ fn within(
         Ok(Some(order)) => {
             frame.lexer.pass_line();
             let said = Said::Order(order);
-            Ok(Next::Read(SourceLine { place, said }))
+            lines.push(SourceLine { place, said })?;
+            Ok(Next::Nothing)
         }
         Ok(None) => fed(frame, place, line),
         Err(_) => Err(place.load_fault(LoadCause::OutOfMemory)),
