@@ -36,7 +36,7 @@ mod weights;
 
 pub use adjustments::{Adjustment, Loss, Lost, Report, Tally, all_adjustments};
 pub use places::SourcePlace;
-pub use ranges::{NameRange, name_at, spell_name};
+pub use ranges::{NameRange, name_at, spell_name, spell_next};
 pub use readers::{SourceKind, SourceReader};
 pub use source_faults::{SourceCause, SourceFault};
 pub use source_lines::{Declaration, Said, SourceLine, Tailoring};

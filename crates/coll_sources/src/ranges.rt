@@ -2,7 +2,7 @@
 //!
 //! All names of a range are spelled in one room, and kept as short texts are, which take no memory.
 
-ghost use Rattle.std.specs.Prelude.{◌≡◌, ◌<◌, ◌≤◌, ◌++◌, chars, string_bytes, IfOk, OnOk};
+ghost use Rattle.std.specs.Prelude.{◌≡◌, ◌<◌, ◌≤◌, ◌-◌, ◌++◌, [], chars, string_bytes, IfOk, OnOk};
 ghost use Rattle.coll_lex.specs.Spelling.{hex_digit};
 ghost use Rattle.coll_sources.specs.NameRanges.{base_of, digits_in, range_name};
 
@@ -243,6 +243,27 @@ pub fn spell_name(name: &mut String, range: &NameRange, number: u32) -> Result<(
     name.clear();
     name.push_str(range.letters.get())?;
     push_digits(name, range.digits, range.width, number)?;
+    Ok(())
+}
+
+/// Spells the name of a range that has this number in place of that of the number before, or in place of no text: mostly the last digit
+/// alone is another one.
+pub fn spell_next(name: &mut String, range: &NameRange, number: u32) -> Result<(), AllocError>
+    ensures first { OnOk result (string_bytes name.old ≡ [] → chars (string_bytes name.new) ≡ range_name range.now number) }
+    ensures next { OnOk result (chars (string_bytes name.old) ≡ range_name range.now (number - 1)
+        → chars (string_bytes name.new) ≡ range_name range.now number) }
+{
+    let last = range.digits.last(number);
+    if last == 0 || range.width == 0 {
+        return spell_name(name, range, number);
+    }
+    let Some(before) = name.pop() else {
+        return spell_name(name, range, number);
+    };
+    if before > '\u{7f}' {
+        return spell_name(name, range, number);
+    }
+    name.push(digit(last))?;
     Ok(())
 }
 
