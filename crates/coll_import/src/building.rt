@@ -19,7 +19,7 @@ use coll_lookups::HashKeys;
 use coll_meanings::{
     DeclaredRange, LastNames, Meanings, PlacedLookUp, SourceStatement, lose_statement,
 };
-use coll_sources::{NameRange, Report, SourceFault, SourceLine, SourcePlace, spell_name};
+use coll_sources::{NameRange, Report, SourceFault, SourceLine, SourcePlace, spell_next};
 use coll_syntax::{Rules, Statement, TableLine};
 use coll_table::Table;
 use coll_texts::{LoadCause, TableBuilder};
@@ -203,7 +203,7 @@ fn declare_range(
 ) -> Result<(), SourceFault> {
     let mut room = String::new(alloc);
     for number in names.first..=names.last {
-        spell_name(&mut room, names, number)?;
+        spell_next(&mut room, names, number)?;
         let name = TextBuf::copied(alloc, room.as_str())?;
         put(builder, place, Statement::Symbol(name), report)?;
     }

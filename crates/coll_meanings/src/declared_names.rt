@@ -18,7 +18,7 @@ use coll_lookups::{HashKeys, WordKeys};
 use coll_nodes::{DeclaredItem, MOST_DECLARATIONS};
 use coll_sources::{
     Adjustment, Declaration, Lost, NameRange, Report, Said, SourceFault, SourceLine, SourcePlace,
-    name_at, spell_name,
+    name_at, spell_next,
 };
 use coll_syntax::{Id, MOST_ELEMENT_CHARS, OrderLine, Statement};
 use coll_table::Table;
@@ -294,7 +294,7 @@ impl DeclaredNames {
         }
         let mut room = String::new(self.alloc);
         for number in range.first..=range.last {
-            spell_name(&mut room, range, number)?;
+            spell_next(&mut room, range, number)?;
             let name = TextBuf::copied(self.alloc, room.as_str())?;
             self.symbol(table, place, &name, report)?;
         }
