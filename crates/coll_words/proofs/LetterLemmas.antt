@@ -34,7 +34,7 @@ use Rattle.coll_key.specs.SortKey.{key_of}
 use Rattle.coll_key.proofs.OrderLemmas.{order_from}
 use Rattle.coll_key.specs.LevelList.{items, items_of, level_list, listed, position_of}
 use Rattle.coll_key.specs.TextOrder.{level_lists, list_order, order_of}
-use Rattle.coll_words.specs.ElementMarks.{AreAlone, AreMarked, AreMarks, BeginsOther, GoesOnOther, IsApart, IsSameAt, KeepMarks, StandsAlone, TellsOf}
+use Rattle.coll_words.specs.ElementMarks.{AreAlone, AreMarked, AreMarks, BeginsOther, GoesOnOther, GoesOnOtherAt, IsAloneAt, IsApart, IsApartAt, IsSameAt, KeepMarks, StandsAlone, TellsOf}
 use Rattle.coll_words.specs.LetterWeights.{BeginWith, DecidesBoth, GoesOn, IsFirstLetter, IsLetterRow, IsOrderToText, IsRowOf, IsStep, IsStepAtEnd, IsStepOfBoth, IsStepOfParts, LeavesParts, OrdersAlike, OrdersSo, PartsAlike, list_behind, order_at_end, order_behind, order_of_parts, text_items, text_numbers}
 use Rattle.coll_words.specs.declared.element_marks.ElementMarks.{ElementMarks}
 use Rattle.coll_words.specs.declared.letter_weights.FirstLetter.{FirstLetter}
@@ -147,11 +147,59 @@ singles_pass n m ns ms order is other_is order_is eq position gaps xs ys =
     ∙ not_ne order (list_order (listed position 0 xs) (listed position 0 ys)) eq
 
 -- a byte that is a character by itself
-byte_first : (b : ℕ) (rest : List ℕ) → IsUtf8 (b ∷ rest) → b < 128 → chars (b ∷ rest) ≡ b ∷ chars rest
+pub byte_first : (b : ℕ) (rest : List ℕ) → IsUtf8 (b ∷ rest) → b < 128 → chars (b ∷ rest) ≡ b ∷ chars rest
 byte_first b rest utf8 low = chars_past_char (b ∷ rest) rest b utf8 (sym (ap (λ (l : List ℕ). l ++ rest) (encode_ascii b low)))
 
-behind_byte : (b : ℕ) (rest : List ℕ) → IsUtf8 (b ∷ rest) → b < 128 → IsUtf8 rest
+pub behind_byte : (b : ℕ) (rest : List ℕ) → IsUtf8 (b ∷ rest) → b < 128 → IsUtf8 rest
 behind_byte b rest utf8 low = IsUtf8-drop (b ∷ rest) 1 utf8 (IsCharBoundary-after_ascii (b ∷ rest) 0 utf8 (omega arith) low)
+
+-- no element begins with it there
+goes_on_first : (marks : ElementMarks) (b : ℕ) (rest : List ℕ) → IsUtf8 rest → GoesOnOtherAt marks (b ∷ rest) 0 → GoesOnOther marks (chars rest)
+goes_on_first marks b [] utf8 goes = subst (GoesOnOther marks) (sym chars-nil) tt
+goes_on_first marks b (d ∷ more) utf8 goes =
+    ⊎_elim
+    (λ (short : length (b ∷ d ∷ more) ≤ suc 0). absurd (omega (arith, short)))
+    (λ (low : (d < 128) × (slice_index_or marks.seconds d 0 ≡ 0)). subst (GoesOnOther marks) (sym (byte_first d more utf8 low.0)) low.1)
+    goes
+
+pub apart_first : (marks : ElementMarks) (b : ℕ) (rest : List ℕ) → IsUtf8 rest → IsApartAt marks (b ∷ rest) 0 → IsApart marks b (chars rest)
+apart_first marks b rest utf8 apart =
+    ⊎_elim
+    (λ (none : slice_index_or marks.firsts b 0 ≡ 0). inl none)
+    (λ (low : (slice_index_or marks.firsts b 0 < 2) × GoesOnOtherAt marks (b ∷ rest) 0). inr (low.0, goes_on_first marks b rest utf8 low.1))
+    apart
+
+-- nor with one behind it
+goes_on_behind : (marks : ElementMarks) (b : ℕ) (bytes : List ℕ) (place : ℕ) → GoesOnOtherAt marks (b ∷ bytes) (suc place) → GoesOnOtherAt marks bytes place
+goes_on_behind marks b bytes place goes =
+    ⊎_elim
+    (λ (short : length (b ∷ bytes) ≤ suc (suc place)). inl (omega (arith, short)))
+    (λ (low : (slice_index_or bytes (suc place) 0 < 128) × (slice_index_or marks.seconds (slice_index_or bytes (suc place) 0) 0 ≡ 0)). inr low)
+    goes
+
+pub alone_behind : (marks : ElementMarks) (b : ℕ) (bytes : List ℕ) (place : ℕ) → IsAloneAt marks (b ∷ bytes) (suc place) → IsAloneAt marks bytes place
+alone_behind marks b bytes place is = record {
+  within = omega (arith, is.within);
+  alone = is.alone;
+  apart = ⊎_elim
+      (λ (none : slice_index_or marks.firsts (slice_index_or bytes place 0) 0 ≡ 0). inl none)
+      (λ (low : (slice_index_or marks.firsts (slice_index_or bytes place 0) 0 < 2) × GoesOnOtherAt marks (b ∷ bytes) (suc place)). inr (low.0, goes_on_behind marks b bytes place low.1))
+      is.apart;
+}
+
+-- behind such characters a text goes on, and is no longer
+pub record GoesOnBehind (text rest : List ℕ) : Type 0 where
+  pub utf8 : IsUtf8 rest
+  pub shorter : length (chars rest) ≤ length (chars text)
+
+pub behind_bytes : (marks : ElementMarks) (count : ℕ) (text : List ℕ) → IsUtf8 text → ((k : ℕ) → k < count → IsAloneAt marks text k) → GoesOnBehind text (drop count text)
+behind_bytes marks zero text utf8 alone = record { utf8 = utf8; shorter = omega arith }
+behind_bytes marks (suc count) [] utf8 alone = absurd (omega (arith, (alone 0 (omega arith)).within))
+behind_bytes marks (suc count) (b ∷ text) utf8 alone =
+    let here = alone 0 (omega arith) in
+    let later : GoesOnBehind text (drop count text) =
+    behind_bytes marks count text (behind_byte b text utf8 here.alone) (λ k within. alone_behind marks b text k (alone (suc k) (omega (arith, within)))) in
+    record { utf8 = later.utf8; shorter = omega (arith, later.shorter, ap length (byte_first b text utf8 here.alone)) }
 
 -- one pair of texts after another
 pub alike_on : (table : Collation) (level : ℕ) (text other later others last last_other : List ℕ) → OrdersAlike table level text other later others
@@ -196,24 +244,21 @@ module _ (table : Collation) (level : ℕ) where
   pub same_behind : (marks : ElementMarks) → AreMarks table marks → (count : ℕ) (text other : List ℕ) → IsUtf8 text → IsUtf8 other → ((k : ℕ) → k < count → IsSameAt marks text other k)
       → OrdersAlike table level (chars text) (chars other) (chars (drop count text)) (chars (drop count other))
   same_behind marks are zero text other utf8 other_utf8 same = λ position gaps. (gaps, refl)
-  same_behind marks are (suc count) [] other utf8 other_utf8 same = absurd (omega (arith, (same 0 (omega arith)).within))
-  same_behind marks are (suc count) (b ∷ text) [] utf8 other_utf8 same = absurd (omega (arith, (same 0 (omega arith)).other_within))
+  same_behind marks are (suc count) [] other utf8 other_utf8 same = absurd (omega (arith, (same 0 (omega arith)).first.within))
+  same_behind marks are (suc count) (b ∷ text) [] utf8 other_utf8 same = absurd (omega (arith, (same 0 (omega arith)).second.within))
   same_behind marks are (suc count) (b ∷ text) (o ∷ other) utf8 other_utf8 same =
-      let first = same 0 (omega arith) in
-      let low : o < 128 = omega (arith, first.alone, first.same) in
-      let none : (rest : List ℕ) → StandsAlone table b rest = λ rest. are b rest (inl first.unmarked) in
-      let one = step_same (chars (b ∷ text)) (chars (o ∷ other)) (chars text) (chars other) b o (byte_first b text utf8 first.alone) (byte_first o other other_utf8 low) first.same (none (chars text))
-      (none (chars other)) in
+      let here = same 0 (omega arith) in
+      let later_utf8 : IsUtf8 text = behind_byte b text utf8 here.first.alone in
+      let others_utf8 : IsUtf8 other = behind_byte o other other_utf8 here.second.alone in
+      let apart : StandsAlone table b (chars text) = are b (chars text) (apart_first marks b text later_utf8 here.first.apart) in
+      let other_apart : StandsAlone table b (chars other) =
+      subst (λ (c : ℕ). StandsAlone table c (chars other)) (sym here.same) (are o (chars other) (apart_first marks o other others_utf8 here.second.apart)) in
+      let one = step_same (chars (b ∷ text)) (chars (o ∷ other)) (chars text) (chars other) b o (byte_first b text utf8 here.first.alone) (byte_first o other other_utf8 here.second.alone) here.same apart
+      other_apart in
       alike_on table level (chars (b ∷ text)) (chars (o ∷ other)) (chars text) (chars other) (chars (drop count text)) (chars (drop count other)) one.same
-      (same_behind marks are count text other (behind_byte b text utf8 first.alone) (behind_byte o other other_utf8 low) (λ k within.
+      (same_behind marks are count text other later_utf8 others_utf8 (λ k within.
       let next = same (suc k) (omega (arith, within)) in
-      record {
-        within = omega (arith, next.within);
-        other_within = omega (arith, next.other_within);
-        same = next.same;
-        alone = next.alone;
-        unmarked = next.unmarked;
-      }))
+      record { same = next.same; first = alone_behind marks b text k next.first; second = alone_behind marks o other k next.second }))
 
   -- the text that goes on where the other one ended is greater
   greater_at_end : (xs : List ℕ) → order_at_end Greater xs ≡ list_order xs []

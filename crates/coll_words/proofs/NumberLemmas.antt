@@ -1,8 +1,13 @@
 -- Single numbers of the first level decide the order of texts.
-use Rattle.std.proofs.Common.{◌≡◌, ℕ, zero, suc, ◌<◌, ◌≢◌, Bool, true, false, List, [], ◌∷◌, ◌++◌, length, map, get_or, All, refl, sym, ap, subst, ◌∙◌, arith}
+use Rattle.std.proofs.Common.{◌≡◌, ℕ, zero, suc, ◌<◌, ◌≤◌, ◌≢◌, chars, drop, Bool, true, false, List, [], ◌∷◌, ◌++◌, length, map, get_or, All, refl, sym, ap, subst, ◌∙◌, arith}
 use Rattle.std.specs.List.{flat_map}
+use Rattle.std.specs.Prelude.{slice_index_or}
 use Rattle.std.specs.Ordering.{is_ne, nat_cmp}
 use Rattle.std.specs.declared.cmp.Ordering.{Ordering}
+use Rattle.std.specs.declared.cmp.Ordering.TheVariants.{Less, Greater}
+use Rattle.std.specs.Str.{IsUtf8}
+use Rattle.std.proofs.lemmas.List.{drop_all}
+use Rattle.std.proofs.lemmas.Str.{chars-nil}
 use Rattle.std.proofs.lemmas.List.Elements.{All-append, All-cons, All-nil}
 use Rattle.coll_syntax.specs.declared.rules.Rule.{Rule}
 use Rattle.coll_nodes.specs.Table.{Collation}
@@ -14,11 +19,13 @@ use Rattle.coll_ranks.specs.declared.text_elements.ElementRow.{ElementRow}
 use Rattle.coll_key.proofs.OrderLemmas.{order_decided}
 use Rattle.coll_key.specs.LevelList.{items_of, listed}
 use Rattle.coll_key.specs.TextOrder.{list_order, order_of}
-use Rattle.coll_words.specs.ElementMarks.{StandsAlone}
-use Rattle.coll_words.specs.FirstNumbers.{IsFirstNumber, IsNumberOf, LooksForward}
-use Rattle.coll_words.specs.LetterWeights.{GoesOn, IsRowOf, OrdersSo, list_behind, order_at_end, text_numbers}
+use Rattle.coll_words.specs.ElementMarks.{AreMarks, IsSameAt, StandsAlone}
+use Rattle.coll_words.specs.FirstNumbers.{AreNumbersByCode, IsFirstNumber, IsNumberAt, IsNumberOf, LooksForward}
+use Rattle.coll_words.specs.LetterWeights.{GoesOn, IsRowOf, OrdersAlike, OrdersSo, list_behind, order_at_end, text_numbers}
 use Rattle.coll_words.specs.declared.first_numbers.FirstNumber.{FirstNumber}
-use Rattle.coll_words.proofs.LetterLemmas.{begin_behind, letter_alone, level_orders, order_by_levels, singles_decide, singles_pass}
+use Rattle.coll_words.proofs.LetterLemmas.{alone_behind, apart_first, begin_behind, behind_byte, behind_bytes, byte_first, letter_alone, level_orders, order_by_levels, orders_before, same_behind, singles_decide, singles_pass, step_greater, step_less}
+use Rattle.coll_words.specs.declared.element_marks.ElementMarks.{ElementMarks}
+use Rattle.coll_words.specs.declared.letter_weights.LetterStep.TheVariants.{Decided}
 
 -- a text begins with a character of this number, and goes on with the rest
 pub record IsNumbered (table : Collation) (text : List ℕ) (number : ℕ) (rest : List ℕ) : Type 0 where
@@ -68,6 +75,54 @@ module _ (table : Collation) where
       single_at_end position gaps n [] wanted (text_numbers table 0 rest)
       ∙ ap (order_at_end wanted) (sym (begin_behind table 0 text (n ∷ []) (text_numbers table 0 rest) position gaps is.numbers))
 
+-- Bytes.
+
+-- the byte at a place, as the first character of what is behind
+number_behind : (table : Collation) (marks : ElementMarks) → AreMarks table marks → 0 < length table.rules → (place : ℕ) (bytes : List ℕ) (n : ℕ) → IsUtf8 (drop place bytes)
+    → IsNumberAt table marks bytes place n → n ≢ 0 → IsNumbered table (chars (drop place bytes)) n (chars (drop (suc place) bytes))
+number_behind table marks are some zero [] n utf8 is above = absurd (omega (arith, is.alone.within))
+number_behind table marks are some zero (b ∷ rest) n utf8 is above =
+    numbered_text table b (chars (b ∷ rest)) (chars rest) n (byte_first b rest utf8 is.alone.alone)
+    (are b (chars rest) (apart_first marks b rest (behind_byte b rest utf8 is.alone.alone) is.alone.apart)) is.number above some
+number_behind table marks are some (suc place) [] n utf8 is above = absurd (omega (arith, is.alone.within))
+number_behind table marks are some (suc place) (b ∷ bytes) n utf8 is above =
+    number_behind table marks are some place bytes n utf8 (record { alone = alone_behind marks b bytes place is.alone; number = is.number }) above
+
+module _ (table : Collation) (marks : ElementMarks) (are : AreMarks table marks) (some : 0 < length table.rules) (front : ℕ) (text other : List ℕ) (utf8 : IsUtf8 text) (other_utf8 : IsUtf8 other)
+    (same : (k : ℕ) → k < front → IsSameAt marks text other k) where
+  behind_front : OrdersAlike table 0 (chars text) (chars other) (chars (drop front text)) (chars (drop front other))
+  behind_front = same_behind table 0 marks are front text other utf8 other_utf8 same
+
+  first_behind : (n : ℕ) → IsNumberAt table marks text front n → n ≢ 0 → IsNumbered table (chars (drop front text)) n (chars (drop (suc front) text))
+  first_behind n is above = number_behind table marks are some front text n (behind_bytes marks front text utf8 (λ k within. (same k within).first)).utf8 is above
+
+  second_behind : (n : ℕ) → IsNumberAt table marks other front n → n ≢ 0 → IsNumbered table (chars (drop front other)) n (chars (drop (suc front) other))
+  second_behind n is above = number_behind table marks are some front other n (behind_bytes marks front other other_utf8 (λ k within. (same k within).second)).utf8 is above
+
+  -- the numbers of both decide
+  pub bytes_decide : (n m : ℕ) (order : Ordering) → IsNumberAt table marks text front n → n ≢ 0 → IsNumberAt table marks other front m → m ≢ 0 → order ≡ nat_cmp n m → is_ne order ≡ true
+      → OrdersSo table 0 (chars text) (chars other) order
+  bytes_decide n m order is above other_is other_above order_is ne =
+      orders_before table 0 (chars text) (chars other) (chars (drop front text)) (chars (drop front other)) order behind_front
+      (numbers_decide table (chars (drop front text)) (chars (drop front other)) (chars (drop (suc front) text)) (chars (drop (suc front) other)) n m order (first_behind n is above)
+      (second_behind m other_is other_above) order_is ne)
+
+  -- where one has ended, the other goes on with a number
+  none_left : (bytes : List ℕ) → length bytes ≤ front → chars (drop front bytes) ≡ []
+  none_left bytes ended = ap chars (drop_all front bytes ended) ∙ chars-nil
+
+  pub ended_less : (m : ℕ) → length text ≤ front → IsNumberAt table marks other front m → m ≢ 0 → OrdersSo table 0 (chars text) (chars other) Less
+  ended_less m ended is above =
+      orders_before table 0 (chars text) (chars other) (chars (drop front text)) (chars (drop front other)) Less behind_front
+      (step_less table 0 (chars (drop front text)) (chars (drop front other)) (Decided Less) (none_left text ended)
+      (number_at_end table (chars (drop front other)) (chars (drop (suc front) other)) m Less (second_behind m is above)))
+
+  pub ended_greater : (n : ℕ) → length other ≤ front → IsNumberAt table marks text front n → n ≢ 0 → OrdersSo table 0 (chars text) (chars other) Greater
+  ended_greater n ended is above =
+      orders_before table 0 (chars text) (chars other) (chars (drop front text)) (chars (drop front other)) Greater behind_front
+      (step_greater table 0 (chars (drop front text)) (chars (drop front other)) (Decided Greater) (none_left other ended)
+      (number_at_end table (chars (drop front text)) (chars (drop (suc front) text)) n Greater (first_behind n is above)))
+
 -- The first level.
 
 pub some_level : (rules : List Rule) → LooksForward rules → 0 < length rules
@@ -111,3 +166,7 @@ one_more_number table kept with next all one is =
 -- nobody has the number 0
 pub nobody : (table : Collation) (c : ℕ) → IsNumberOf table c 0
 nobody table c = record { single = λ above some. absurd (omega (arith, above)) }
+
+-- and so has everybody in an empty list
+pub no_number_yet : (table : Collation) (numbers : List ℕ) → ((c : ℕ) → slice_index_or numbers c 0 ≡ 0) → AreNumbersByCode table numbers
+no_number_yet table numbers none = λ c. subst (IsNumberOf table c) (sym (none c)) (nobody table c)

@@ -1,5 +1,5 @@
 -- Which characters stand first and second in the strings of the elements of a table.
-use Rattle.std.specs.Prelude.{◌≡◌, ◌⊎◌, ◌<◌, ◌≤◌, ℕ, List, [], ◌∷◌, None, false, length, slice_index_or}
+use Rattle.std.specs.Prelude.{◌≡◌, ◌⊎◌, ◌<◌, ◌≤◌, ℕ, suc, List, [], ◌∷◌, None, false, length, slice_index_or}
 use Rattle.coll_nodes.specs.Table.{Collation}
 use Rattle.coll_nodes.specs.declared.declarations.Declaration.{Declaration}
 use Rattle.coll_nodes.specs.declared.declarations.Declaration.TheVariants as declaration
@@ -40,13 +40,27 @@ AreAllApart marks (c ∷ rest) = IsApart marks c rest × AreAllApart marks rest
 abbrev pub AreMarks : Collation → ElementMarks → Type 0
 AreMarks table marks = (c : ℕ) (rest : List ℕ) → IsApart marks c rest → StandsAlone table c rest
 
--- two texts have the same byte at a place, which is a character by itself, and no element begins with it
+-- behind a place a text goes on with a byte that is a character by itself and isn't marked as second, or not at all
+abbrev pub GoesOnOtherAt : ElementMarks → (bytes : List ℕ) → (place : ℕ) → Type 0
+GoesOnOtherAt marks bytes place =
+    (length bytes ≤ suc place) ⊎ ((slice_index_or bytes (suc place) 0 < 128) × (slice_index_or marks.seconds (slice_index_or bytes (suc place) 0) 0 ≡ 0))
+
+-- by the marks no element begins with the byte at a place
+abbrev pub IsApartAt : ElementMarks → (bytes : List ℕ) → (place : ℕ) → Type 0
+IsApartAt marks bytes place =
+    (slice_index_or marks.firsts (slice_index_or bytes place 0) 0 ≡ 0) ⊎ ((slice_index_or marks.firsts (slice_index_or bytes place 0) 0 < 2) × GoesOnOtherAt marks bytes place)
+
+-- the byte at a place is a character by itself, and no element begins with it there
+pub record IsAloneAt (marks : ElementMarks) (bytes : List ℕ) (place : ℕ) : Type 0 where
+  pub within : place < length bytes
+  pub alone : slice_index_or bytes place 0 < 128
+  pub apart : IsApartAt marks bytes place
+
+-- two texts have the same byte at a place, which is such a character in both
 pub record IsSameAt (marks : ElementMarks) (text other : List ℕ) (place : ℕ) : Type 0 where
-  pub within : place < length text
-  pub other_within : place < length other
   pub same : slice_index_or text place 0 ≡ slice_index_or other place 0
-  pub alone : slice_index_or text place 0 < 128
-  pub unmarked : slice_index_or marks.firsts (slice_index_or text place 0) 0 ≡ 0
+  pub first : IsAloneAt marks text place
+  pub second : IsAloneAt marks other place
 
 -- no mark is lower than it was
 pub record KeepMarks (old new : ElementMarks) : Type 0 where

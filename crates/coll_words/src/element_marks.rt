@@ -8,7 +8,8 @@ ghost use Rattle.std.specs.Prelude.{◌≡◌, ◌<◌, ◌≤◌, ℕ, chars, l
 ghost use Rattle.coll_nodes.specs.TableLayout.{collation};
 ghost use Rattle.coll_nodes.specs.WalkItems.{declared_by};
 ghost use Rattle.coll_elements.specs.TableElements.{HasString};
-ghost use Rattle.coll_words.specs.ElementMarks.{AreMarks, AreAllApart, AreMarked, GoesOnOther, IsApart, IsSameAt, KeepMarks, TellsOf};
+ghost use Rattle.coll_words.specs.ElementMarks.{AreMarks, AreAllApart, AreMarked, GoesOnOther, GoesOnOtherAt};
+ghost use Rattle.coll_words.specs.ElementMarks.{IsAloneAt, IsApart, IsSameAt, KeepMarks, TellsOf};
 
 use crate::letter_weights::split_first_char;
 use coll_elements::CodePoints;
@@ -82,27 +83,79 @@ impl ElementMarks {
         }
     }
 
-    /// How many bytes two texts both begin with that are characters by themselves, with none of which an element begins.
-    pub fn same_front(&self, text: &[u8], other: &[u8]) -> usize
+    /// How many bytes two texts both begin with that are characters by themselves, where no element begins with one of them in either.
+    #[inline(always)]
+    pub fn same_front(&self, text: &str, other: &str) -> usize
         ensures { (k : ℕ) → k < result → IsSameAt self.now text.now other.now k }
     {
-        for place in 0..text.len() {
-            if place >= other.len() {
-                return place;
-            }
-            let byte = text[place];
-            if byte != other[place] {
-                return place;
-            }
-            if byte >= ASCII_END {
-                return place;
-            }
-            let mark = self.firsts.get(char::from(byte));
-            if mark > 0 {
+        self.same_bytes(text.as_bytes(), other.as_bytes())
+    }
+
+    // The same, of their bytes.
+    #[inline(always)]
+    fn same_bytes(&self, text: &[u8], other: &[u8]) -> usize
+        ensures { (k : ℕ) → k < result → IsSameAt self.now text.now other.now k }
+    {
+        let shorter = text.len().min(other.len());
+        for place in 0..shorter {
+            if !self.is_same_at(text, other, place) {
                 return place;
             }
         }
-        text.len()
+        shorter
+    }
+
+    // Whether two texts have the same byte at a place, which is a character by itself, and with which no element begins in either.
+    #[inline(always)]
+    fn is_same_at(&self, text: &[u8], other: &[u8], place: usize) -> bool
+        requires within { place < length text.now }
+        requires other_within { place < length other.now }
+        ensures { result ≡ true → IsSameAt self.now text.now other.now place }
+    {
+        if text[place] != other[place] {
+            return false;
+        }
+        if !self.is_apart_at(text, place) {
+            return false;
+        }
+        self.is_apart_at(other, place)
+    }
+
+    /// Whether the byte at a place of a text is a character by itself, and no element begins with it there.
+    #[inline(always)]
+    pub fn is_apart_at(&self, bytes: &[u8], place: usize) -> bool
+        requires { place < length bytes.now }
+        ensures { result ≡ true → IsAloneAt self.now bytes.now place }
+    {
+        let byte = bytes[place];
+        if byte >= ASCII_END {
+            return false;
+        }
+        let mark = self.firsts.get(char::from(byte));
+        if mark == 0 {
+            return true;
+        }
+        if mark >= WHOLE {
+            return false;
+        }
+        self.goes_on_other_at(bytes, place)
+    }
+
+    // Whether a text goes on behind a place with a byte that is a character by itself and stands second in no element, or not at all.
+    #[inline(never)]
+    fn goes_on_other_at(&self, bytes: &[u8], place: usize) -> bool
+        requires { place < length bytes.now }
+        ensures { result ≡ true → GoesOnOtherAt self.now bytes.now place }
+    {
+        let behind = place + 1;
+        if behind >= bytes.len() {
+            return true;
+        }
+        let next = bytes[behind];
+        if next >= ASCII_END {
+            return false;
+        }
+        self.seconds.get(char::from(next)) == 0
     }
 
     /// Whether no element begins anywhere in a text.

@@ -2,18 +2,23 @@
 //!
 //! Nearly all pairs of words are told apart by the first two characters in which they differ, and by these at the first level. So of
 //! each character its number there is kept, if it has a single one, and two words are compared along these numbers alone: at each
-//! character that takes one look-up and no cell of weights. What isn't decided so is left to the levels (`letter_weights`).
+//! character that takes one look-up and no cell of weights. The numbers of ASCII stand in a list by code point: where both words have
+//! such characters behind the bytes that they share, these are compared as bytes, and nothing is decoded. What isn't decided so is left
+//! to the levels (`letter_weights`).
 
-ghost use Rattle.std.specs.Prelude.{◌≡◌, ◌<◌, ◌∷◌, [], All, chars, length, true, IfOk, IfSome};
+ghost use Rattle.std.specs.Prelude.{◌≡◌, ◌≢◌, ◌<◌, ◌∷◌, [], ℕ, All, chars, length, slice_index_or, true, IfOk, IfSome};
+ghost use Rattle.std.specs.Ordering.{is_ne};
 ghost use Rattle.coll_nodes.specs.TableLayout.{collation};
 ghost use Rattle.coll_ranks.specs.LevelWeights.{level_numbers};
 ghost use Rattle.coll_key.specs.TextOrder.{order_of};
-ghost use Rattle.coll_words.specs.ElementMarks.{AreMarks};
-ghost use Rattle.coll_words.specs.FirstNumbers.{AreFirstNumbers, IsFirstNumber, IsNumberOf, LooksForward};
+ghost use Rattle.coll_words.specs.ElementMarks.{AreMarks, IsSameAt};
+ghost use Rattle.coll_words.specs.FirstNumbers.{AreFirstNumbers, AreNumbersByCode, IsFirstNumber, IsNumberAt, IsNumberOf, LooksForward};
 ghost use Rattle.coll_words.specs.LetterWeights.{IsLetterRow, IsStep, IsStepAtEnd, OrdersSo};
 
 use crate::element_marks::ElementMarks;
-use crate::letter_weights::{LetterRow, LetterStep, behind_same, number_of, split_first_char};
+use crate::letter_weights::{
+    LetterRow, LetterStep, behind_front, behind_same, number_of, split_first_char,
+};
 use coll_elements::CodePoints;
 use coll_ranks::{ElementRow, LevelWeights, TextWeights, WeightRanks};
 use coll_table::Table;
@@ -35,11 +40,16 @@ const NOBODY: FirstNumber = FirstNumber {
     number: 0,
 };
 
+// How many characters ASCII has.
+const ASCII_CHARACTERS: usize = 128;
+
 /// The numbers of characters at the first level, by one table as it stood when they were made.
 #[derive(Drop)]
 pub(crate) struct FirstNumbers {
     // Those of the characters, by their places from 1.
     numbers: Vec<FirstNumber>,
+    // Those of ASCII, by their code points. Of other characters 0 stands there, or nothing.
+    ascii: Vec<u64>,
     // Whether the first level is looked at from the front.
     forward: bool,
 }
@@ -57,7 +67,12 @@ impl FirstNumbers {
     {
         let forward = looks_forward(table);
         let numbers = numbers_of_rows(alloc, table, made, rows)?;
-        Ok(FirstNumbers { numbers, forward })
+        let ascii = ascii_numbers(alloc, table, &numbers)?;
+        Ok(FirstNumbers {
+            numbers,
+            ascii,
+            forward,
+        })
     }
 
     /// The order of two texts, if single numbers of the first level tell it. The marks are those of the table. It takes no memory.
@@ -77,15 +92,81 @@ impl FirstNumbers {
         if !self.forward {
             return None;
         }
-        let order = self.first_order(table, places, marks, text, other)?;
+        let front = marks.same_front(text, other);
+        if let Some(order) = self.order_at(table, marks, text, other, front) {
+            return Some(order);
+        }
+        let order = self.first_order(table, places, marks, text, other, front)?;
         if order.is_ne() {
             return Some(order);
         }
         None
     }
 
-    // The order of two texts at the first level, which is looked at from the front, if single numbers tell it.
+    // The order of two texts, if the numbers of the bytes behind what both begin with tell it, or one of them ends there.
     #[inline(always)]
+    fn order_at(
+        &self,
+        table: &Table,
+        marks: &ElementMarks,
+        text: &str,
+        other: &str,
+        front: usize,
+    ) -> Option<Ordering>
+        requires numbers { AreFirstNumbers (collation table.now) self.now }
+        requires marks { AreMarks (collation table.now) marks.now }
+        requires level { 0 < length (collation table.now).rules }
+        requires front { (k : ℕ) → k < front → IsSameAt marks.now text.now other.now k }
+        ensures order { IfSome result (OrdersSo (collation table.now) 0 (chars text.now) (chars other.now)) }
+        ensures decides { IfSome result (λ order. is_ne order ≡ true) }
+    {
+        if front >= text.len() {
+            let next = self.number_at(table, marks, other, front);
+            if next == 0 {
+                return None;
+            }
+            return Some(Ordering::Less);
+        }
+        let number = self.number_at(table, marks, text, front);
+        if number == 0 {
+            return None;
+        }
+        if front >= other.len() {
+            return Some(Ordering::Greater);
+        }
+        let other_number = self.number_at(table, marks, other, front);
+        if other_number == 0 {
+            return None;
+        }
+        let order = number.cmp(&other_number);
+        if order.is_ne() {
+            return Some(order);
+        }
+        None
+    }
+
+    // The number of the byte at a place, if it is a character by itself with which no element begins, or else 0.
+    #[inline(always)]
+    fn number_at(&self, _table: &Table, marks: &ElementMarks, text: &str, place: usize) -> u64
+        requires { AreFirstNumbers (collation _table.now) self.now }
+        ensures { result ≢ 0 → IsNumberAt (collation _table.now) marks.now text.now place result }
+    {
+        let bytes = text.as_bytes();
+        if place >= bytes.len() {
+            return 0;
+        }
+        if !marks.is_apart_at(bytes, place) {
+            return 0;
+        }
+        match self.ascii.get(bytes[place] as usize) {
+            Some(number) => *number,
+            None => 0,
+        }
+    }
+
+    // The order of two texts at the first level, which is looked at from the front, if single numbers tell it. Both begin with as many of
+    // the same bytes.
+    #[inline(never)]
     fn first_order(
         &self,
         table: &Table,
@@ -93,19 +174,22 @@ impl FirstNumbers {
         marks: &ElementMarks,
         text: &str,
         other: &str,
+        front: usize,
     ) -> Option<Ordering>
         requires numbers { AreFirstNumbers (collation table.now) self.now }
         requires marks { AreMarks (collation table.now) marks.now }
         requires level { 0 < length (collation table.now).rules }
+        requires front { (k : ℕ) → k < front → IsSameAt marks.now text.now other.now k }
         ensures { IfSome result (OrdersSo (collation table.now) 0 (chars text.now) (chars other.now)) }
     {
-        let (mut left, mut right) = behind_same(table, 0, marks, text, other);
+        let (mut left, mut right) = behind_front(table, 0, marks, text, other, front);
         'letters: loop {
             match self.step(table, places, marks, left, right) {
                 LetterStep::Decided(order) => return Some(order),
                 LetterStep::Later(later, others) => {
-                    left = later;
-                    right = others;
+                    let (next, next_other) = behind_same(table, 0, marks, later, others);
+                    left = next;
+                    right = next_other;
                 }
                 LetterStep::Unknown => return None,
             }
@@ -136,11 +220,14 @@ impl FirstNumbers {
         if !marks.is_apart(first, later) {
             return LetterStep::Unknown;
         }
-        if !marks.is_apart(second, others) {
+        if first == second {
+            if marks.is_apart(first, others) {
+                return LetterStep::Later(later, others);
+            }
             return LetterStep::Unknown;
         }
-        if first == second {
-            return LetterStep::Later(later, others);
+        if !marks.is_apart(second, others) {
+            return LetterStep::Unknown;
         }
         let number = self.number(table, places, first);
         if number == 0 {
@@ -223,6 +310,43 @@ fn numbers_of_rows(
         numbers.push(FirstNumber { letter, number })?;
     }
     Ok(numbers)
+}
+
+// The numbers of ASCII, by code point.
+fn ascii_numbers(
+    alloc: Global,
+    _table: &Table,
+    numbers: &[FirstNumber],
+) -> Result<Vec<u64>, AllocError>
+    requires { All (IsFirstNumber (collation _table.now)) numbers.now }
+    ensures { IfOk result (λ ascii. AreNumbersByCode (collation _table.now) ascii.items) }
+{
+    let mut ascii = no_numbers(alloc, ASCII_CHARACTERS)?;
+    for kept in numbers {
+        put_number(_table, &mut ascii, *kept);
+    }
+    Ok(ascii)
+}
+
+// So many times 0.
+fn no_numbers(alloc: Global, count: usize) -> Result<Vec<u64>, AllocError>
+    ensures { IfOk result (λ numbers. (c : ℕ) → slice_index_or numbers.items c 0 ≡ 0) }
+{
+    let mut numbers = Vec::new(alloc);
+    numbers.resize(count, 0)?;
+    Ok(numbers)
+}
+
+// Puts the number of a character into a list by code point, if it has a place there.
+fn put_number(_table: &Table, numbers: &mut Vec<u64>, kept: FirstNumber)
+    requires kept { IsFirstNumber (collation _table.now) kept }
+    requires before { AreNumbersByCode (collation _table.now) numbers.old.items }
+    ensures { AreNumbersByCode (collation _table.now) numbers.new.items }
+{
+    let place = kept.letter as usize;
+    if place < numbers.len() {
+        numbers[place] = kept.number;
+    }
 }
 
 // The number of a row, or 0 where it has none, or several.

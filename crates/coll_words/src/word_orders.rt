@@ -197,7 +197,8 @@ fn most_letters(table: &Table) -> usize {
     FEW_LETTERS + table.len() / ENTRIES_A_LETTER
 }
 
-/// The order of two words.
+/// The order of two words. What single numbers tell is told along the caller's own lines, before anything that may be refused.
+#[inline(always)]
 pub(crate) fn order_of_words(
     alloc: Global,
     table: &Table,
@@ -215,6 +216,7 @@ pub(crate) fn order_of_words(
 }
 
 // The same, by the rows of characters.
+#[inline(always)]
 fn order_by_letters(
     alloc: Global,
     table: &Table,

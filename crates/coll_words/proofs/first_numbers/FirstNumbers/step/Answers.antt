@@ -14,12 +14,12 @@ returns-in_default-split_first_char c =
     step_greater (collation c.args.table.now) 0 (chars c.args.left.now) (chars c.args.right.now) c.step_at_end-in_default-split_first_char.result c.in_default-split_first_char.ensures
     c.step_at_end-in_default-split_first_char.ensures
 
-pub returns-then-first-second : goal.returns-then-first-second
-returns-then-first-second c =
+pub returns-then-is_apart : goal.returns-then-is_apart
+returns-then-is_apart c =
     step_same (collation c.args.table.now) 0 (chars c.args.left.now) (chars c.args.right.now) (chars c.in-Some.later.now) (chars c.in-Some-split_first_char.others.now) c.in-Some.first
     c.in-Some-split_first_char.second c.in-Some.ensures c.in-Some-split_first_char.ensures c.if-first-second.true
     (c.requires.marks c.in-Some.first (chars c.in-Some.later.now) (c.is_apart.ensures c.if-not-is_apart.false))
-    (rw c.if-first-second.true (c.requires.marks c.in-Some-split_first_char.second (chars c.in-Some-split_first_char.others.now) (c.is_apart-2.ensures c.if-not-is_apart-2.false)))
+    (c.requires.marks c.in-Some.first (chars c.in-Some-split_first_char.others.now) (c.is_apart-then-first-second.ensures c.if-is_apart.true))
 
 pub returns-then-is_ne : goal.returns-then-is_ne
 returns-then-is_ne c =

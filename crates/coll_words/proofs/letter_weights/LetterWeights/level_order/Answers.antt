@@ -16,8 +16,10 @@ pub letters-preserved-in-Later : goal.letters-preserved-in-Later
 letters-preserved-in-Later c = record {
   left = search rules;
   right = search rules;
-  same = alike_on (collation c.args.table.now) c.args.level (chars c.args.text.now) (chars c.args.other.now) (chars c.letters.left.now) (chars c.letters.right.now) (chars c.in-Later.later.now)
-      (chars c.in-Later.others.now) c.letters.invariant.same c.in-Later.ensures.same;
+  same = alike_on (collation c.args.table.now) c.args.level (chars c.args.text.now) (chars c.args.other.now) (chars c.letters.left.now) (chars c.letters.right.now) (chars c.behind_same-in-Later.result.0.now)
+      (chars c.behind_same-in-Later.result.1.now) c.letters.invariant.same
+      (alike_on (collation c.args.table.now) c.args.level (chars c.letters.left.now) (chars c.letters.right.now) (chars c.in-Later.later.now) (chars c.in-Later.others.now)
+      (chars c.behind_same-in-Later.result.0.now) (chars c.behind_same-in-Later.result.1.now) c.in-Later.ensures.same c.behind_same-in-Later.ensures.same);
 }
 
 pub returns-in-Decided : goal.returns-in-Decided
