@@ -1,8 +1,7 @@
 -- What the characters of texts weigh decides their order.
-use Rattle.std.proofs.Common.{◌≡◌, inl, inr, ⊎_elim, ℕ, zero, suc, ◌+◌, ◌<◌, ◌≤◌, ◌&&◌, ◌==◌, Bool, true, false, if◌then◌else◌, List, [], ◌∷◌, ◌++◌, length, map, Option, None, Some, All, chars, refl, sym, ap, subst, ◌∙◌, append_assoc, arith, drop, get_or}
+use Rattle.std.proofs.Common.{◌≡◌, inl, inr, ⊎_elim, ℕ, zero, suc, ◌+◌, ◌<◌, ◌≤◌, ◌==◌, Bool, true, false, List, [], ◌∷◌, ◌++◌, length, map, Option, Some, All, chars, refl, sym, ap, subst, ◌∙◌, append_assoc, arith, drop, get_or}
 use Rattle.std.specs.Prelude.{slice_index_or}
 use Rattle.std.specs.List.{flat_map}
-use Rattle.std.proofs.lemmas.Bool.{eqb-true}
 use Rattle.std.specs.Ordering.{is_ne, nat_cmp, ordering_reverse, ordering_then}
 use Rattle.std.specs.declared.cmp.Ordering.{Ordering}
 use Rattle.std.specs.declared.cmp.Ordering.TheVariants.{Less, Equal, Greater}
@@ -15,12 +14,7 @@ use Rattle.std.proofs.lemmas.Str.{IsCharBoundary-after_ascii, IsUtf8-drop, chars
 use Rattle.coll_syntax.specs.declared.identifiers.Id.TheVariants.{Char}
 use Rattle.coll_syntax.specs.declared.rules.Rule.{Rule}
 use Rattle.coll_nodes.specs.Table.{Collation}
-use Rattle.coll_nodes.specs.declared.declarations.Declaration.{Declaration}
-use Rattle.coll_nodes.specs.declared.declarations.Declaration.TheVariants as declaration
-use Rattle.coll_nodes.specs.Table.{is_placed}
-use Rattle.coll_syntax.specs.declared.identifiers.Id.TheVariants.{Named}
-use Rattle.coll_elements.specs.Elements.{Element, beyond_first, begins_with, element_id, element_placed, element_text, elements_of, elements_placed, longer, longest, split}
-use Rattle.coll_elements.proofs.Tests.{by_test}
+use Rattle.coll_elements.specs.Elements.{Element, beyond_first, element_id, element_text, elements_of, elements_placed, longer, split}
 use Rattle.coll_ranks.specs.LevelWeights.{row_numbers, row_of}
 use Rattle.coll_ranks.specs.RankLists.{WeightsValue}
 use Rattle.coll_ranks.specs.Ranks.{compiled_numbers}
@@ -34,7 +28,8 @@ use Rattle.coll_key.specs.SortKey.{key_of}
 use Rattle.coll_key.proofs.OrderLemmas.{order_from}
 use Rattle.coll_key.specs.LevelList.{items, items_of, level_list, listed, position_of}
 use Rattle.coll_key.specs.TextOrder.{level_lists, list_order, order_of}
-use Rattle.coll_words.specs.ElementMarks.{AreAlone, AreMarked, AreMarks, BeginsOther, GoesOnOther, GoesOnOtherAt, IsAloneAt, IsApart, IsApartAt, IsSameAt, KeepMarks, StandsAlone, TellsOf}
+use Rattle.coll_words.specs.ElementMarks.{AreAlone, AreMarks, GoesOnOther, GoesOnOtherAt, IsAloneAt, IsApart, IsApartAt, IsSameAt, StandsAlone}
+use Rattle.coll_words.proofs.MarkLemmas.{stands_apart}
 use Rattle.coll_words.specs.LetterWeights.{BeginWith, DecidesBoth, GoesOn, IsFirstLetter, IsLetterRow, IsOrderToText, IsRowOf, IsStep, IsStepAtEnd, IsStepOfBoth, IsStepOfParts, LeavesParts, OrdersAlike, OrdersSo, PartsAlike, list_behind, order_at_end, order_behind, order_of_parts, text_items, text_numbers}
 use Rattle.coll_words.specs.declared.element_marks.ElementMarks.{ElementMarks}
 use Rattle.coll_words.specs.declared.letter_weights.FirstLetter.{FirstLetter}
@@ -250,9 +245,9 @@ module _ (table : Collation) (level : ℕ) where
       let here = same 0 (omega arith) in
       let later_utf8 : IsUtf8 text = behind_byte b text utf8 here.first.alone in
       let others_utf8 : IsUtf8 other = behind_byte o other other_utf8 here.second.alone in
-      let apart : StandsAlone table b (chars text) = are b (chars text) (apart_first marks b text later_utf8 here.first.apart) in
+      let apart : StandsAlone table b (chars text) = stands_apart table marks are b (chars text) (apart_first marks b text later_utf8 here.first.apart) in
       let other_apart : StandsAlone table b (chars other) =
-      subst (λ (c : ℕ). StandsAlone table c (chars other)) (sym here.same) (are o (chars other) (apart_first marks o other others_utf8 here.second.apart)) in
+      subst (λ (c : ℕ). StandsAlone table c (chars other)) (sym here.same) (stands_apart table marks are o (chars other) (apart_first marks o other others_utf8 here.second.apart)) in
       let one = step_same (chars (b ∷ text)) (chars (o ∷ other)) (chars text) (chars other) b o (byte_first b text utf8 here.first.alone) (byte_first o other other_utf8 here.second.alone) here.same apart
       other_apart in
       alike_on table level (chars (b ∷ text)) (chars (o ∷ other)) (chars text) (chars other) (chars (drop count text)) (chars (drop count other)) one.same
@@ -474,34 +469,6 @@ module _ (table : Collation) (level : ℕ) where
   }
   step_parts weights within text other first second ns ms Unknown is other_is n m steps = tt
 
--- Elements that are declared.
-
-begins_none : (c : ℕ) (rest : List ℕ) (xs ys : List Element) → longest element_text xs (c ∷ rest) ≡ None → longest element_text ys (c ∷ rest) ≡ None → longest element_text (xs ++ ys) (c ∷ rest) ≡ None
-begins_none c rest [] ys none later = later
-begins_none c rest (x ∷ xs) ys none later =
-    by_test
-    (λ (b : Bool). (if b then Some (longer element_text x (longest element_text xs (c ∷ rest))) else longest element_text xs (c ∷ rest)) ≡ None
-    → (if b then Some (longer element_text x (longest element_text (xs ++ ys) (c ∷ rest))) else longest element_text (xs ++ ys) (c ∷ rest)) ≡ None)
-    (begins_with (c ∷ rest) x.text)
-    (λ on found. absurd cc)
-    (λ off found. begins_none c rest xs ys found later)
-    none
-
--- what is declared is no element that a character begins
-pub none_begins : (table : Collation) (c : ℕ) (rest : List ℕ) (d : Declaration) → BeginsOther (c ∷ rest) d → longest element_text (element_placed table d) (c ∷ rest) ≡ None
-none_begins table c rest (declaration.Symbol name) other = refl
-none_begins table c rest (declaration.Equivalence name symbol) other = refl
-none_begins table c rest (declaration.Element name text) other =
-    by_test (λ (b : Bool). longest element_text (if b then record { name = name; text = text } ∷ [] else []) (c ∷ rest) ≡ None) (is_placed table (Named name))
-    (λ on. ap (λ (b : Bool). if b then Some (longer element_text (record { name = name; text = text }) None) else None) other)
-    (λ off. refl)
-
--- nor is it one of these and of those behind it
-pub none_of_more : (table : Collation) (c : ℕ) (rest : List ℕ) (d : Declaration) (later : List Declaration) → BeginsOther (c ∷ rest) d
-    → longest element_text (flat_map (element_placed table) later) (c ∷ rest) ≡ None → longest element_text (flat_map (element_placed table) (d ∷ later)) (c ∷ rest) ≡ None
-none_of_more table c rest d later other none =
-    begins_none c rest (element_placed table d) (flat_map (element_placed table) later) (none_begins table c rest d other) none
-
 -- Rows.
 
 abbrev first_or : List ℕ → List (List ℕ) → List ℕ
@@ -576,70 +543,6 @@ rows_go_on table weights elements items index d rows with letter row text rest s
       alone = alone.1;
       later = rows_behind table weights element (drop (index + 1) elements) letter text rest is here numbers;
     }
-
--- Marks.
-
-goes_on_before : (old new : ElementMarks) → KeepMarks old new → (rest : List ℕ) → GoesOnOther new rest → GoesOnOther old rest
-goes_on_before old new kept [] goes = tt
-goes_on_before old new kept (d ∷ rest) goes = omega (arith, goes, kept.seconds d)
-
--- what is apart by marks was so by fewer
-pub apart_before : (old new : ElementMarks) → KeepMarks old new → (c : ℕ) (rest : List ℕ) → IsApart new c rest → IsApart old c rest
-apart_before old new kept c rest apart =
-    ⊎_elim
-    (λ (none : slice_index_or new.firsts c 0 ≡ 0). inl (omega (arith, none, kept.firsts c)))
-    (λ (low : (slice_index_or new.firsts c 0 < 2) × GoesOnOther new rest). inr (omega (arith, low.0, kept.firsts c), goes_on_before old new kept rest low.1))
-    apart
-
-not_first : (marks : ElementMarks) (c e : ℕ) (rest : List ℕ) → c ≡ e → 2 ≤ slice_index_or marks.firsts e 0 → IsApart marks c rest → ⊥
-not_first marks c e rest same marked apart =
-    let here = ap (λ (n : ℕ). slice_index_or marks.firsts n 0) same in
-    ⊎_elim
-    (λ (none : slice_index_or marks.firsts c 0 ≡ 0). absurd (omega (arith, none, here, marked)))
-    (λ (low : (slice_index_or marks.firsts c 0 < 2) × GoesOnOther marks rest). absurd (omega (arith, low.0, here, marked)))
-    apart
-
-not_both : (marks : ElementMarks) (c d e f : ℕ) (rest : List ℕ) → c ≡ e → d ≡ f → 1 ≤ slice_index_or marks.firsts e 0 → 1 ≤ slice_index_or marks.seconds f 0 → IsApart marks c (d ∷ rest) → ⊥
-not_both marks c d e f rest same next_same marked next_marked apart =
-    let here = ap (λ (n : ℕ). slice_index_or marks.firsts n 0) same in
-    let next = ap (λ (n : ℕ). slice_index_or marks.seconds n 0) next_same in
-    ⊎_elim
-    (λ (none : slice_index_or marks.firsts c 0 ≡ 0). absurd (omega (arith, none, here, marked)))
-    (λ (low : (slice_index_or marks.firsts c 0 < 2) × (slice_index_or marks.seconds d 0 ≡ 0)). absurd (omega (arith, low.1, next, next_marked)))
-    apart
-
-begins_marked : (marks : ElementMarks) (c : ℕ) (rest string : List ℕ) → IsApart marks c rest → AreMarked marks string → begins_with (c ∷ rest) string ≡ false
-begins_marked marks c rest [] apart marked = absurd marked
-begins_marked marks c rest (e ∷ []) apart marked =
-    by_test (λ (b : Bool). (b && begins_with rest []) ≡ false) (c == e) (λ on. absurd (not_first marks c e rest (eqb-true c e on) marked apart)) (λ off. refl)
-begins_marked marks c [] (e ∷ f ∷ more) apart marked =
-    by_test (λ (b : Bool). (b && false) ≡ false) (c == e) (λ on. refl) (λ off. refl)
-begins_marked marks c (d ∷ rest) (e ∷ f ∷ more) apart marked =
-    by_test (λ (b : Bool). (b && ((d == f) && begins_with rest more)) ≡ false) (c == e)
-    (λ on.
-    by_test (λ (b : Bool). (true && (b && begins_with rest more)) ≡ false) (d == f)
-    (λ both. absurd (not_both marks c d e f rest (eqb-true c e on) (eqb-true d f both) marked.0 marked.1 apart))
-    (λ off. refl))
-    (λ off. refl)
-
--- no element that the marks tell of begins where they tell that none does
-pub apart_other : (marks : ElementMarks) (c : ℕ) (rest : List ℕ) (d : Declaration) → IsApart marks c rest → TellsOf marks d → BeginsOther (c ∷ rest) d
-apart_other marks c rest (declaration.Symbol name) apart told = tt
-apart_other marks c rest (declaration.Equivalence name symbol) apart told = tt
-apart_other marks c rest (declaration.Element name text) apart told = begins_marked marks c rest text apart told
-
--- marks that are raised
-pub kept_marks : (marks : ElementMarks) → KeepMarks marks marks
-kept_marks marks = record { firsts = λ c. omega arith; seconds = λ c. omega arith }
-
--- a single character is the whole string
-pub whole_marked : (marks : ElementMarks) (c : ℕ) (text rest : List ℕ) → text ≡ c ∷ rest → rest ≡ [] → 2 ≤ slice_index_or marks.firsts c 0 → AreMarked marks text
-whole_marked marks c text rest is none marked = subst (AreMarked marks) (sym (is ∙ ap (λ (l : List ℕ). c ∷ l) none)) marked
-
--- of others two characters are marked
-pub both_marked : (marks : ElementMarks) (c d : ℕ) (text rest more : List ℕ) → text ≡ c ∷ rest → rest ≡ d ∷ more → 1 ≤ slice_index_or marks.firsts c 0 → 1 ≤ slice_index_or marks.seconds d 0
-    → AreMarked marks text
-both_marked marks c d text rest more is next first second = subst (AreMarked marks) (sym (is ∙ ap (λ (l : List ℕ). c ∷ l) next)) (first, second)
 
 same_list : (ns : List ℕ) → list_order ns ns ≡ Equal
 same_list [] = refl

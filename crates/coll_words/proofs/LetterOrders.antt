@@ -3,13 +3,14 @@ use Rattle.std.proofs.Common.{ℕ, List, [], ◌∷◌, Option, None, Some, char
 use Rattle.std.specs.Prelude.{IfSome}
 use Rattle.coll_nodes.specs.Table.{Collation}
 use Rattle.coll_words.specs.ElementMarks.{AreAllApart, AreAlone, AreMarks}
+use Rattle.coll_words.proofs.MarkLemmas.{stands_apart}
 use Rattle.coll_words.specs.WordOrders.{AreApart, MayServe}
 use Rattle.coll_words.specs.declared.element_marks.ElementMarks.{ElementMarks}
 use Rattle.coll_words.specs.declared.letters.Letters.{Letters}
 
 all_alone : (table : Collation) (marks : ElementMarks) → AreMarks table marks → (text : List ℕ) → AreAllApart marks text → AreAlone table text
 all_alone table marks are [] apart = tt
-all_alone table marks are (c ∷ rest) apart = (are c rest apart.0, all_alone table marks are rest apart.1)
+all_alone table marks are (c ∷ rest) apart = (stands_apart table marks are c rest apart.0, all_alone table marks are rest apart.1)
 
 pub may_serve : (table : Collation) (marks : ElementMarks) (kept : Option Letters) → AreMarks table marks → IfSome kept (AreApart marks) → IfSome kept (MayServe table)
 may_serve table marks None are apart = tt

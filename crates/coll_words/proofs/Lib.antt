@@ -8,6 +8,8 @@ pub mod LetterLemmas
 pub mod LetterOrders
 pub mod ListedKeyLemmas
 pub mod ListedLemmas
+pub mod MarkLemmas
+pub mod MarkedLemmas
 pub mod MemberLemmas
 pub mod NeighbourLemmas
 pub mod NumberLemmas

@@ -23,6 +23,7 @@ use Rattle.coll_words.specs.ElementMarks.{AreMarks, IsSameAt, StandsAlone}
 use Rattle.coll_words.specs.FirstNumbers.{AreNumbersByCode, IsFirstNumber, IsNumberAt, IsNumberOf, LooksForward}
 use Rattle.coll_words.specs.LetterWeights.{GoesOn, IsRowOf, OrdersAlike, OrdersSo, list_behind, order_at_end, text_numbers}
 use Rattle.coll_words.specs.declared.first_numbers.FirstNumber.{FirstNumber}
+use Rattle.coll_words.proofs.MarkLemmas.{stands_apart}
 use Rattle.coll_words.proofs.LetterLemmas.{alone_behind, apart_first, begin_behind, behind_byte, behind_bytes, byte_first, letter_alone, level_orders, order_by_levels, orders_before, same_behind, singles_decide, singles_pass, step_greater, step_less}
 use Rattle.coll_words.specs.declared.element_marks.ElementMarks.{ElementMarks}
 use Rattle.coll_words.specs.declared.letter_weights.LetterStep.TheVariants.{Decided}
@@ -83,7 +84,7 @@ number_behind : (table : Collation) (marks : ElementMarks) → AreMarks table ma
 number_behind table marks are some zero [] n utf8 is above = absurd (omega (arith, is.alone.within))
 number_behind table marks are some zero (b ∷ rest) n utf8 is above =
     numbered_text table b (chars (b ∷ rest)) (chars rest) n (byte_first b rest utf8 is.alone.alone)
-    (are b (chars rest) (apart_first marks b rest (behind_byte b rest utf8 is.alone.alone) is.alone.apart)) is.number above some
+    (stands_apart table marks are b (chars rest) (apart_first marks b rest (behind_byte b rest utf8 is.alone.alone) is.alone.apart)) is.number above some
 number_behind table marks are some (suc place) [] n utf8 is above = absurd (omega (arith, is.alone.within))
 number_behind table marks are some (suc place) (b ∷ bytes) n utf8 is above =
     number_behind table marks are some place bytes n utf8 (record { alone = alone_behind marks b bytes place is.alone; number = is.number }) above

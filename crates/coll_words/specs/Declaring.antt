@@ -11,3 +11,12 @@ declares_alone (Equivalence name symbol) = true
 declares_alone (Block target lines) = false
 declares_alone (SectionAfter name after) = false
 declares_alone (Reweight line) = false
+
+-- a statement declares an element
+abbrev pub declares_element : Statement → Bool
+declares_element (Symbol name) = false
+declares_element (Element name text) = true
+declares_element (Equivalence name symbol) = false
+declares_element (Block target lines) = false
+declares_element (SectionAfter name after) = false
+declares_element (Reweight line) = false

@@ -1,9 +1,11 @@
 -- Which characters stand first and second in the strings of the elements of a table.
-use Rattle.std.specs.Prelude.{◌≡◌, ◌⊎◌, ◌<◌, ◌≤◌, ℕ, suc, List, [], ◌∷◌, None, false, length, slice_index_or}
+use Rattle.std.specs.Prelude.{◌≡◌, ◌⊎◌, ◌<◌, ◌≤◌, ℕ, suc, List, [], ◌∷◌, Option, None, Ok, false, length, slice_index_or, IfSome}
+use Rattle.coll_syntax.specs.declared.statements.Statement.{Statement}
 use Rattle.coll_nodes.specs.Table.{Collation}
 use Rattle.coll_nodes.specs.declared.declarations.Declaration.{Declaration}
 use Rattle.coll_nodes.specs.declared.declarations.Declaration.TheVariants as declaration
 use Rattle.coll_elements.specs.Elements.{begins_with, element_text, elements_placed, longest}
+use Rattle.coll_table.specs.Delta.{delta}
 use Rattle.coll_words.specs.declared.element_marks.ElementMarks.{ElementMarks}
 
 -- no collating element that is placed begins with a character that this text follows
@@ -35,10 +37,6 @@ IsApart marks c rest =
 abbrev pub AreAllApart : ElementMarks → (text : List ℕ) → Type 0
 AreAllApart marks [] = Unit {0}
 AreAllApart marks (c ∷ rest) = IsApart marks c rest × AreAllApart marks rest
-
--- the marks are those of a table: where they tell that no element begins, none that is placed does
-abbrev pub AreMarks : Collation → ElementMarks → Type 0
-AreMarks table marks = (c : ℕ) (rest : List ℕ) → IsApart marks c rest → StandsAlone table c rest
 
 -- behind a place a text goes on with a byte that is a character by itself and isn't marked as second, or not at all
 abbrev pub GoesOnOtherAt : ElementMarks → (bytes : List ℕ) → (place : ℕ) → Type 0
@@ -78,3 +76,17 @@ abbrev pub TellsOf : ElementMarks → Declaration → Type 0
 TellsOf marks (declaration.Symbol name) = Unit {0}
 TellsOf marks (declaration.Equivalence name symbol) = Unit {0}
 TellsOf marks (declaration.Element name text) = AreMarked marks text
+
+-- and of all of these
+abbrev pub TellOfAll : ElementMarks → List Declaration → Type 0
+TellOfAll marks [] = Unit {0}
+TellOfAll marks (d ∷ ds) = TellsOf marks d × TellOfAll marks ds
+
+-- the marks are those of a table: they tell of all that it declares, so where they tell that no element begins, none that is placed does
+abbrev pub AreMarks : Collation → ElementMarks → Type 0
+AreMarks table marks = TellOfAll marks table.declared
+
+-- the marks that were those of a table are those of the table that a statement makes of it
+abbrev pub StayMarks : Statement → (marks after : Option ElementMarks) → Type 0
+StayMarks s marks after =
+    (old new : Collation) → delta old s ≡ Ok new → IfSome marks (AreMarks old) → IfSome after (AreMarks new)

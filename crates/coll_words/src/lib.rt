@@ -17,7 +17,7 @@
 //!   that `listed_keys` make (`ListedKeys`), and behind a guess of `word_fronts` where many do; the words are compared by `word_orders`
 //!   (`WordOrders`), where it serves by what their `letters` weigh (`letter_weights`, `LetterWeights`), mostly by the single numbers of
 //!   these at the first level (`first_numbers`, `FirstNumbers`), as far as no element stands among them (`element_marks`,
-//!   `ElementMarks`); `review_lines` with what is told of a statement (`ReviewLines`), and `reviews` with where a review stands
+//!   `ElementMarks`), which `marked_tables` keep beside the table; `review_lines` with what is told of a statement (`ReviewLines`), and `reviews` with where a review stands
 //!   (`Reviews`, `ReviewSteps`), and which statements move no word (`Declaring`); what is told is kept by `kept_bytes`, and how far a
 //!   review got is told by `progress`.
 #![tactic(auto)]
@@ -32,6 +32,7 @@ mod letter_weights;
 mod letters;
 mod listed_keys;
 mod listed_words;
+mod marked_tables;
 mod moved_words;
 mod numbered_words;
 mod packed_keys;

@@ -12,6 +12,7 @@ ghost use Rattle.coll_words.specs.ReviewLines.{review_line};
 
 use crate::kept_bytes::KeptBytes;
 use crate::listed_words::{ListedWord, sort_anew};
+use crate::marked_tables::MarkedTable;
 use crate::review_lines::{write_counts, write_told, write_unmoved};
 use crate::word_orders::Looks;
 use coll_bench::{Fault, RunFault, TakesStatements};
@@ -26,7 +27,7 @@ use std::alloc::Global;
 #[derive(Drop)]
 pub(crate) struct Review<'a> {
     alloc: Global,
-    table: Table,
+    table: MarkedTable,
     // The words, in the order of the table.
     list: Vec<ListedWord<'a>>,
     // What the words are compared by.
@@ -47,7 +48,7 @@ impl<'a> Review<'a> {
     {
         Review {
             alloc,
-            table,
+            table: MarkedTable::new(table),
             list,
             looks: Looks::new(alloc),
             count: 0,
@@ -95,9 +96,17 @@ impl<'a> TakesStatements for Review<'a> {
                 Err(_) => Err(no_memory(input, at.line)),
             };
         }
-        if let Err(_) = sort_anew(self.alloc, &self.table, &mut self.looks, &mut self.list) {
+        let mut marks = self.table.take_marks();
+        if let Err(_) = sort_anew(
+            self.alloc,
+            self.table.table(),
+            &mut marks,
+            &mut self.looks,
+            &mut self.list,
+        ) {
             return Err(no_memory(input, at.line));
         }
+        self.table.keep_marks(marks);
         match write_told(&mut self.told, number, &at.statement, self.list.as_slice()) {
             Ok(()) => Ok(()),
             Err(_) => Err(no_memory(input, at.line)),

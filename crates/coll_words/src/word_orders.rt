@@ -76,23 +76,47 @@ impl Looks {
     }
 }
 
-/// What the words of a list are compared by in a table.
+/// What the words of a list are compared by in a table. Marks of the table that are kept are taken, and stand in what serves until they
+/// are given back (`give_back`).
 pub(crate) fn word_order<'a>(
     alloc: Global,
     table: &Table,
+    marks: &mut Option<ElementMarks>,
     looks: &'a mut Looks,
     list: &[ListedWord<'_>],
 ) -> Result<WordOrder<'a>, AllocError>
-    ensures { IfOk result (λ order. Serves order table.now) }
+    requires { IfSome marks.old (AreMarks (collation table.now)) }
+    ensures serves { IfOk result (λ order. Serves order table.now) }
+    ensures marks { IfSome marks.new (AreMarks (collation table.now)) }
 {
-    if let Some(marks) = look_at_letters(alloc, table, &mut looks.letters, list)? {
+    if let Some(taken) = look_at_letters(alloc, table, marks, &mut looks.letters, list)? {
         if let Some(letters) = &looks.letters {
-            let order = letter_order(alloc, table, letters, marks, &mut looks.numbers)?;
+            let order = letter_order(alloc, table, letters, taken, &mut looks.numbers)?;
             return Ok(WordOrder::ByLetters(order));
         }
     }
     let ranks = Ranks::new(alloc, table)?;
     Ok(WordOrder::ByRanks(ranks))
+}
+
+/// Gives marks back that were taken.
+pub(crate) fn give_back(_table: &Table, order: WordOrder<'_>, marks: &mut Option<ElementMarks>)
+    requires serves { Serves order _table.now }
+    requires marks { IfSome marks.old (AreMarks (collation _table.now)) }
+    ensures { IfSome marks.new (AreMarks (collation _table.now)) }
+{
+    match order {
+        WordOrder::ByRanks(ranks) => drop(ranks),
+        WordOrder::ByLetters(letters) => {
+            let LetterOrder {
+                weights,
+                places: _,
+                joined: _,
+                numbers: _,
+            } = letters;
+            drop(marks.replace(weights.into_marks()));
+        }
+    }
 }
 
 // The rows of characters, with the marks of a table.
@@ -118,30 +142,63 @@ fn letter_order<'a>(
 }
 
 // The marks of a table, where words are compared by their characters in it. These are gathered where they weren't, or where another
-// element was declared since.
+// element was declared since. Marks that are kept are taken, and kept still where they don't serve.
 fn look_at_letters(
     alloc: Global,
     table: &Table,
+    marks: &mut Option<ElementMarks>,
     kept: &mut Option<Letters>,
     list: &[ListedWord<'_>],
 ) -> Result<Option<ElementMarks>, AllocError>
-    ensures { IfOk result (λ found. IfSome found (λ marks.
+    requires { IfSome marks.old (AreMarks (collation table.now)) }
+    ensures serve { IfOk result (λ found. IfSome found (λ marks.
         AreMarks (collation table.now) marks × IfSome kept.new (MayServe (collation table.now)))) }
+    ensures marks { IfSome marks.new (AreMarks (collation table.now)) }
 {
     if are_incomplete(kept) {
         return Ok(None);
     }
-    let marks = ElementMarks::of(alloc, table)?;
-    if !are_of(kept, &marks) {
-        let times = times_gathered(kept);
-        let most_joined = table.len() / ENTRIES_A_JOINED_BYTE;
-        let letters = Letters::of(alloc, list, &marks, most_letters(table), most_joined, times)?;
-        drop(kept.replace(letters));
+    let taken = taken_marks(alloc, table, marks)?;
+    gather(alloc, table, kept, &taken, list)?;
+    if are_apart(kept, &taken) {
+        return Ok(Some(taken));
     }
-    if are_apart(kept, &marks) {
-        return Ok(Some(marks));
-    }
+    drop(marks.replace(taken));
     Ok(None)
+}
+
+// Marks of a table that are kept, or else new ones.
+fn taken_marks(
+    alloc: Global,
+    table: &Table,
+    marks: &mut Option<ElementMarks>,
+) -> Result<ElementMarks, AllocError>
+    requires { IfSome marks.old (AreMarks (collation table.now)) }
+    ensures taken { IfOk result (AreMarks (collation table.now)) }
+    ensures marks { IfSome marks.new (AreMarks (collation table.now)) }
+{
+    match marks.take() {
+        Some(taken) => Ok(taken),
+        None => ElementMarks::of(alloc, table),
+    }
+}
+
+// Gathers the characters of words where they weren't, or where another element was declared since.
+fn gather(
+    alloc: Global,
+    table: &Table,
+    kept: &mut Option<Letters>,
+    marks: &ElementMarks,
+    list: &[ListedWord<'_>],
+) -> Result<(), AllocError> {
+    if are_of(kept, marks) {
+        return Ok(());
+    }
+    let times = times_gathered(kept);
+    let most_joined = table.len() / ENTRIES_A_JOINED_BYTE;
+    let letters = Letters::of(alloc, list, marks, most_letters(table), most_joined, times)?;
+    drop(kept.replace(letters));
+    Ok(())
 }
 
 // Whether characters were gathered, and one was left out.

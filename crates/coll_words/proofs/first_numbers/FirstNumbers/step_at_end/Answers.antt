@@ -1,6 +1,7 @@
 -- A text that goes on with a number isn't at its end.
 use Rattle.std.proofs.Common.{chars}
 use Rattle.coll_nodes.specs.TableLayout.{collation}
+use Rattle.coll_words.proofs.MarkLemmas.{stands_apart}
 use Rattle.coll_words.proofs.NumberLemmas.{number_at_end, numbered_text}
 use Rattle.coll_words.proofs.first_numbers.FirstNumbers.step_at_end.Goals as goal
 
@@ -9,4 +10,4 @@ returns c =
     let table = collation c.args.table.now in
     number_at_end table (chars c.args.text.now) (chars c.in-Some.later.now) c.number-number.result c.args.order
     (numbered_text table c.in-Some.first (chars c.args.text.now) (chars c.in-Some.later.now) c.number-number.result c.in-Some.ensures
-    (c.requires.marks c.in-Some.first (chars c.in-Some.later.now) (c.is_apart.ensures c.if-not-is_apart.false)) c.number-number.ensures c.if-number-eq0.false c.requires.level)
+    (stands_apart (collation c.args.table.now) c.args.marks.now c.requires.marks c.in-Some.first (chars c.in-Some.later.now) (c.is_apart.ensures c.if-not-is_apart.false)) c.number-number.ensures c.if-number-eq0.false c.requires.level)

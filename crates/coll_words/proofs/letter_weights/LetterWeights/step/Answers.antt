@@ -3,6 +3,7 @@ use Rattle.std.proofs.Common.{chars, length, ap, arith}
 use Rattle.coll_nodes.specs.TableLayout.{collation}
 use Rattle.coll_ranks.specs.LevelWeights.{level_numbers}
 use Rattle.coll_words.specs.declared.letter_weights.FirstLetter.{FirstLetter}
+use Rattle.coll_words.proofs.MarkLemmas.{stands_apart}
 use Rattle.coll_words.proofs.LetterLemmas.{letter_first, step_both, step_greater, step_less, step_same}
 use Rattle.coll_words.proofs.letter_weights.LetterWeights.step.Goals as goal
 
@@ -19,8 +20,8 @@ pub returns-then-is_apart : goal.returns-then-is_apart
 returns-then-is_apart c =
     step_same (collation c.args.table.now) c.args.level (chars c.args.left.now) (chars c.args.right.now) (chars c.in-Some.later.now)
     (chars c.in-Some-split_first_char.others.now) c.in-Some.first c.in-Some-split_first_char.second c.in-Some.ensures c.in-Some-split_first_char.ensures c.if-first-second.true
-    (c.requires.weights.marks c.in-Some.first (chars c.in-Some.later.now) (c.is_apart.ensures c.if-not-is_apart.false))
-    (c.requires.weights.marks c.in-Some.first (chars c.in-Some-split_first_char.others.now) (c.is_apart-then-first-second.ensures c.if-is_apart.true))
+    (stands_apart (collation c.args.table.now) c.args.self.now.marks c.requires.weights.marks c.in-Some.first (chars c.in-Some.later.now) (c.is_apart.ensures c.if-not-is_apart.false))
+    (stands_apart (collation c.args.table.now) c.args.self.now.marks c.requires.weights.marks c.in-Some.first (chars c.in-Some-split_first_char.others.now) (c.is_apart-then-first-second.ensures c.if-is_apart.true))
 
 pub returns : goal.returns
 returns c =
@@ -33,12 +34,12 @@ returns c =
     step_both table c.args.level weights c.requires.within left right first second (level_numbers c.args.at_level first.row) (level_numbers c.args.at_level second.row) c.step_of_both.result
     (record {
       numbers = letter_first table weights c.in-Some.first first.row left (chars first.rest.now) c.in-Some.ensures
-          (c.requires.weights.marks c.in-Some.first (chars first.rest.now) (c.is_apart.ensures c.if-not-is_apart.false)) c.in-Some-row.ensures;
+          (stands_apart (collation c.args.table.now) c.args.self.now.marks c.requires.weights.marks c.in-Some.first (chars first.rest.now) (c.is_apart.ensures c.if-not-is_apart.false)) c.in-Some-row.ensures;
       shorter = omega (arith, ap length c.in-Some.ensures);
     })
     (record {
       numbers = letter_first table weights c.in-Some-split_first_char.second second.row right (chars second.rest.now) c.in-Some-split_first_char.ensures
-          (c.requires.weights.marks c.in-Some-split_first_char.second (chars second.rest.now) (c.is_apart-2.ensures c.if-not-is_apart-2.false)) c.in-Some-row-2.ensures;
+          (stands_apart (collation c.args.table.now) c.args.self.now.marks c.requires.weights.marks c.in-Some-split_first_char.second (chars second.rest.now) (c.is_apart-2.ensures c.if-not-is_apart-2.false)) c.in-Some-row-2.ensures;
       shorter = omega (arith, ap length c.in-Some-split_first_char.ensures);
     })
     (c.requires.level first.row) (c.requires.level second.row) c.step_of_both.ensures
