@@ -55,6 +55,13 @@ module _ (ranks : RanksValue) (table : Collation) (are : AreRanksOf ranks table)
       ∙ ap first_list (level_lists_by_elements ranks table are well text)
       ∙ first_of_rules table.rules (compiled_numbers ranks.compiled) (elements_by_ranks ranks text) plain)
 
+-- so are those of its elements
+pub first_of_elements : (table : Collation) (text : List ℕ) → begins_plainly table.rules ≡ true → flat_map (numbers_at table 0) (elements_of table text) ≡ first_key table text
+unfolding level_lists
+first_of_elements table text plain =
+    sym
+    (ap (λ (b : Bool). if b then first_list (level_lists table text) else key_of table text) plain ∙ first_of_rules table.rules (numbers_at table) (elements_of table text) plain)
+
 -- else the whole key is
 pub first_is_whole : (table : Collation) (text : List ℕ) → begins_plainly table.rules ≡ false → key_of table text ≡ first_key table text
 first_is_whole table text other = sym (ap (λ (b : Bool). if b then first_list (level_lists table text) else key_of table text) other)

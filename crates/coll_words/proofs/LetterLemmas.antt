@@ -14,7 +14,7 @@ use Rattle.std.proofs.lemmas.Str.{IsCharBoundary-after_ascii, IsUtf8-drop, chars
 use Rattle.coll_syntax.specs.declared.identifiers.Id.TheVariants.{Char}
 use Rattle.coll_syntax.specs.declared.rules.Rule.{Rule}
 use Rattle.coll_nodes.specs.Table.{Collation}
-use Rattle.coll_elements.specs.Elements.{Element, beyond_first, element_id, element_text, elements_of, elements_placed, longer, split}
+use Rattle.coll_elements.specs.Elements.{Element, beyond_first, element_id, element_text, elements_of, elements_placed, split}
 use Rattle.coll_ranks.specs.LevelWeights.{row_numbers, row_of}
 use Rattle.coll_ranks.specs.RankLists.{WeightsValue}
 use Rattle.coll_ranks.specs.Ranks.{compiled_numbers}
@@ -71,7 +71,7 @@ decided Greater later ne = refl
 -- Characters.
 
 -- a character that stands alone is the first element
-alone_first : (table : Collation) (c : ℕ) (rest : List ℕ) → StandsAlone table c rest → elements_of table (c ∷ rest) ≡ Char c ∷ elements_of table rest
+pub alone_first : (table : Collation) (c : ℕ) (rest : List ℕ) → StandsAlone table c rest → elements_of table (c ∷ rest) ≡ Char c ∷ elements_of table rest
 unfolding elements_of
 alone_first table c rest alone =
     ap (λ (found : Option Element). element_id found c ∷ split element_text (elements_placed table) element_id (beyond_first element_text found) rest) alone

@@ -8,7 +8,7 @@ use Rattle.coll_words.specs.WordOrders.{AreApart, MayServe}
 use Rattle.coll_words.specs.declared.element_marks.ElementMarks.{ElementMarks}
 use Rattle.coll_words.specs.declared.letters.Letters.{Letters}
 
-all_alone : (table : Collation) (marks : ElementMarks) → AreMarks table marks → (text : List ℕ) → AreAllApart marks text → AreAlone table text
+pub all_alone : (table : Collation) (marks : ElementMarks) → AreMarks table marks → (text : List ℕ) → AreAllApart marks text → AreAlone table text
 all_alone table marks are [] apart = tt
 all_alone table marks are (c ∷ rest) apart = (stands_apart table marks are c rest apart.0, all_alone table marks are rest apart.1)
 

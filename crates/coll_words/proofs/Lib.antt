@@ -4,6 +4,7 @@ pub mod KeptLemmas
 pub mod KeyLeadLemmas
 pub mod LeadLemmas
 pub mod LentLemmas
+pub mod LetterKeyLemmas
 pub mod LetterLemmas
 pub mod LetterOrders
 pub mod ListedKeyLemmas

@@ -13,7 +13,8 @@ use Rattle.coll_words.specs.KeyedWords.{KeyedWord, texts_of}
 use Rattle.coll_words.specs.SortRuns.{SortsText, SortRanTo, SortRuns, WritesSorted}
 use Rattle.coll_words.specs.SortedWords.{AreSorted}
 use Rattle.coll_words.specs.Words.{written_word, written_words}
-use Rattle.coll_words.specs.WordReading.{AreWordsOf, CountsReading, ReadingFails, WordsFail}
+use Rattle.coll_words.specs.WordReading.{CountsReading, ReadingFails, WordsFail}
+use Rattle.coll_words.specs.WordTexts.{AreTextsOf}
 
 -- the bytes of a word with its key
 abbrev pub line_of : KeyedWord → List ℕ
@@ -24,15 +25,11 @@ pub written_texts : (words : List KeyedWord) → written_words (texts_of words) 
 written_texts [] = refl
 written_texts (word ∷ words) = ap (λ (bytes : List ℕ). written_word word.text ++ bytes) (written_texts words)
 
--- memory was refused before the first line
-pub starved_first : (left left_after : Option (List ℕ)) → ReadingFails left left_after (starved_in 0)
-starved_first left left_after = λ text e. inl refl
-
--- words that were sorted are written
-pub writes : (table : Collation) (words : List KeyedWord) (sorted : List (List ℕ)) (taken taken_after : Option (List ℕ)) (r : Result (Unit {0}) RunFault)
-    → AreSorted table (texts_of words) sorted → Sends taken taken_after (written_words sorted) r → IfErr r (λ ended. ended ≡ write_failed) → WritesSorted table words taken taken_after r
-writes table words sorted taken taken_after (Ok done) sorts sent fault = (sorted, sorts, sent)
-writes table words sorted taken taken_after (Err ended) sorts sent fault = inr (fault, sorted, sorts, sent)
+-- texts that were sorted are written
+pub writes : (table : Collation) (texts sorted : List (List ℕ)) (taken taken_after : Option (List ℕ)) (r : Result (Unit {0}) RunFault)
+    → AreSorted table texts sorted → Sends taken taken_after (written_words sorted) r → IfErr r (λ ended. ended ≡ write_failed) → WritesSorted table texts taken taken_after r
+writes table texts sorted taken taken_after (Ok done) sorts sent fault = (sorted, sorts, sent)
+writes table texts sorted taken taken_after (Err ended) sorts sent fault = inr (fault, sorted, sorts, sent)
 
 -- bytes behind those that are known
 pub appended : (a c : Option (List ℕ)) (before bytes : List ℕ) → a ≡ Some before → Appends a c bytes → c ≡ Some (before ++ bytes)
@@ -51,23 +48,23 @@ module _ (table : Collation) (left left_after taken : Option (List ℕ)) where
       by_kind Starved h = (refl, h)
       by_kind Refused h = (refl, h)
 
-  module _ (words : List KeyedWord) (read : AreWordsOf left words) where
+  module _ (texts : List (List ℕ)) (read : AreTextsOf left texts) where
     -- the words of the text, sorted
-    sorts_text : (sorted : List (List ℕ)) → AreSorted table (texts_of words) sorted → (text : List ℕ) → left ≡ Some text → SortsText table text sorted
-    sorts_text sorted sorts text e = (texts_of words, read text e, sorts)
+    sorts_text : (sorted : List (List ℕ)) → AreSorted table texts sorted → (text : List ℕ) → left ≡ Some text → SortsText table text sorted
+    sorts_text sorted sorts text e = (texts, read text e, sorts)
 
     -- memory was refused to the sort
     starved_runs : (taken_after : Option (List ℕ)) → taken_after ≡ taken → SortRuns table left left_after taken taken_after (Err (starved_in 0))
     starved_runs taken_after same text before e t = ([], same ∙ t ∙ ap Some (sym (append-nil before)), (refl, inl refl))
 
     -- a write failed
-    stopped_runs : (taken_after : Option (List ℕ)) (sorted : List (List ℕ)) → AreSorted table (texts_of words) sorted → AppendsPrefix taken taken_after (written_words sorted)
+    stopped_runs : (taken_after : Option (List ℕ)) (sorted : List (List ℕ)) → AreSorted table texts sorted → AppendsPrefix taken taken_after (written_words sorted)
         → SortRuns table left left_after taken taken_after (Err write_failed)
     stopped_runs taken_after sorted sorts prefix text before e t =
         (prefix.0, appended taken taken_after before prefix.0 t prefix.3, (refl, sorted, prefix.1, sorts_text sorted sorts text e, prefix.2))
 
     -- what was written, by what writing answered
-    pub written_runs : (taken_after : Option (List ℕ)) (r : Result (Unit {0}) RunFault) → WritesSorted table words taken taken_after r → SortRuns table left left_after taken taken_after r
+    pub written_runs : (taken_after : Option (List ℕ)) (r : Result (Unit {0}) RunFault) → WritesSorted table texts taken taken_after r → SortRuns table left left_after taken taken_after r
     written_runs taken_after (Ok done) h text before e t =
         (written_words h.0, appended taken taken_after before (written_words h.0) t h.2, (h.0, sorts_text h.0 h.1 text e, refl))
     written_runs taken_after (Err ended) h text before e t =

@@ -1,11 +1,13 @@
 -- What stands at a place stays there where more is put behind it.
 use Rattle.std.proofs.Common.{◌≡◌, ℕ, ◌+◌, ◌-◌, ◌≤◌, List, [], ◌∷◌, ◌++◌, length, take, drop, get_or, chars, slice_range, IsUtf8}
-use Rattle.std.proofs.Common.{refl, sym, ap, subst, ◌∙◌, arith, length-append}
+use Rattle.std.proofs.Common.{refl, sym, ap, subst, ◌∙◌, append_assoc, arith, length-append}
 use Rattle.std.proofs.lemmas.List.{take_all, take-append-le, drop-append-le, length-drop, map-append}
 use Rattle.std.proofs.lemmas.List.Elements.{All-append, All-cons, All-nil}
 use Rattle.coll_key.proofs.KeyOrder.{All-first, All-others}
-use Rattle.coll_words.specs.KeyedWords.{KeyedWord}
+use Rattle.coll_words.specs.KeyedWords.{KeyedWord, AreKeyedBy, texts_of}
+use Rattle.coll_words.specs.StoredTexts.{IsTextPlace, AreTextPlaces, bytes_in, text_in, texts_at}
 use Rattle.coll_words.specs.StoredWords.{IsPlace, ArePlaces, text_at, word_at, words_at}
+use Rattle.coll_words.specs.declared.stored_texts.TextPlace.{TextPlace}
 use Rattle.coll_words.specs.declared.stored_words.WordPlace.{WordPlace}
 
 -- a part of a list is that of a longer one
@@ -21,76 +23,134 @@ part_put (x ∷ xs) more to is =
     let fewer : to - length (x ∷ xs) ≡ (to - 1) - length xs = omega (arith, is) in
     ap (λ n. take n (drop (length xs) (xs ++ more))) fewer ∙ part_put xs more (to - 1) (omega (arith, is))
 
-module _ (texts more keys others texts_now keys_now : List ℕ) (texts_are : texts_now ≡ texts ++ more) (keys_are : keys_now ≡ keys ++ others) where
-  module _ (place : WordPlace) (is : IsPlace texts keys place) where
-    text_stays : text_at texts_now place ≡ text_at texts place
-    text_stays = ap (λ (l : List ℕ). text_at l place) texts_are ∙ part_stays texts more place.text place.text_end is.text is.text_within
+-- Texts.
 
-    key_stays : slice_range keys_now place.key place.key_end ≡ slice_range keys place.key place.key_end
-    key_stays = ap (λ (l : List ℕ). slice_range l place.key place.key_end) keys_are ∙ part_stays keys others place.key place.key_end is.key is.key_within
+module _ (bytes more bytes_now : List ℕ) (bytes_are : bytes_now ≡ bytes ++ more) where
+  module _ (place : TextPlace) (is : IsTextPlace bytes place) where
+    text_stays : bytes_in bytes_now place ≡ bytes_in bytes place
+    text_stays = ap (λ (l : List ℕ). bytes_in l place) bytes_are ∙ part_stays bytes more place.start place.end is.order is.within
 
-    word_stays : word_at texts_now keys_now place ≡ word_at texts keys place
-    word_stays =
-        ap (λ (bytes : List ℕ). record { text = chars bytes; key = slice_range keys_now place.key place.key_end }) text_stays
-        ∙ ap (λ (key : List ℕ). record { text = chars (text_at texts place); key = key }) key_stays
-
-    place_stays : IsPlace texts_now keys_now place
-    place_stays = record {
-      text = is.text;
-      text_within = omega (arith, is.text_within, ap length texts_are, length-append texts more);
-      key = is.key;
-      key_within = omega (arith, is.key_within, ap length keys_are, length-append keys others);
+    text_place_stays : IsTextPlace bytes_now place
+    text_place_stays = record {
+      order = is.order;
+      within = omega (arith, is.within, ap length bytes_are, length-append bytes more);
       utf8 = subst IsUtf8 (sym text_stays) is.utf8;
     }
 
-  -- so do the places, and the words
-  pub places_stay : (places : List WordPlace) → ArePlaces texts keys places → ArePlaces texts_now keys_now places
-  places_stay places are = λ k d low. place_stays (get_or places k d) (are k d low)
+  text_places_stay : (places : List TextPlace) → AreTextPlaces bytes places → AreTextPlaces bytes_now places
+  text_places_stay places are = λ k d low. text_place_stays (get_or places k d) (are k d low)
 
-  pub words_stay : (places : List WordPlace) → ArePlaces texts keys places → words_at texts_now keys_now places ≡ words_at texts keys places
-  words_stay [] are = refl
-  words_stay (place ∷ places) are =
-      ap (λ (word : KeyedWord). word ∷ words_at texts_now keys_now places) (word_stays place (All-first (IsPlace texts keys) place places are))
-      ∙ ap (λ (words : List KeyedWord). word_at texts keys place ∷ words) (words_stay places (All-others (IsPlace texts keys) place places are))
+  texts_stay : (places : List TextPlace) → AreTextPlaces bytes places → texts_at bytes_now places ≡ texts_at bytes places
+  texts_stay [] are = refl
+  texts_stay (place ∷ places) are =
+      ap (λ (l : List ℕ). chars l ∷ texts_at bytes_now places) (text_stays place (All-first (IsTextPlace bytes) place places are))
+      ∙ ap (λ (texts : List (List ℕ)). text_in bytes place ∷ texts) (texts_stay places (All-others (IsTextPlace bytes) place places are))
 
-  -- a word more, which was put behind the others
-  module _ (place : WordPlace) (text : place.text ≡ length texts) (text_end : place.text_end ≡ length texts_now) (key : place.key ≡ length keys) (key_end : place.key_end ≡ length keys_now) (utf8 : IsUtf8 more) where
-    text_put : text_at texts_now place ≡ more
+  -- a text more, which was put behind the others
+  module _ (start end : ℕ) (start_is : start ≡ length bytes) (end_is : end ≡ length bytes_now) (utf8 : IsUtf8 more) where
+    abbrev text_more : TextPlace
+    text_more = record { start = start; end = end }
+
+    text_put : bytes_in bytes_now text_more ≡ more
     text_put =
-        ap (λ (n : ℕ). slice_range texts_now n place.text_end) text
-        ∙ ap (λ (l : List ℕ). slice_range l (length texts) place.text_end) texts_are
-        ∙ part_put texts more place.text_end (text_end ∙ ap length texts_are ∙ length-append texts more)
+        ap (λ (n : ℕ). slice_range bytes_now n end) start_is
+        ∙ ap (λ (l : List ℕ). slice_range l (length bytes) end) bytes_are
+        ∙ part_put bytes more end (end_is ∙ ap length bytes_are ∙ length-append bytes more)
 
-    key_put : slice_range keys_now place.key place.key_end ≡ others
-    key_put =
-        ap (λ (n : ℕ). slice_range keys_now n place.key_end) key
-        ∙ ap (λ (l : List ℕ). slice_range l (length keys) place.key_end) keys_are
-        ∙ part_put keys others place.key_end (key_end ∙ ap length keys_are ∙ length-append keys others)
-
-    word_put : word_at texts_now keys_now place ≡ record { text = chars more; key = others }
-    word_put =
-        ap (λ (bytes : List ℕ). record { text = chars bytes; key = slice_range keys_now place.key place.key_end }) text_put
-        ∙ ap (λ (key : List ℕ). record { text = chars more; key = key }) key_put
-
-    place_put : IsPlace texts_now keys_now place
-    place_put = record {
-      text = omega (arith, text, text_end, ap length texts_are, length-append texts more);
-      text_within = omega (arith, text_end);
-      key = omega (arith, key, key_end, ap length keys_are, length-append keys others);
-      key_within = omega (arith, key_end);
+    text_place_put : IsTextPlace bytes_now text_more
+    text_place_put = record {
+      order = omega (arith, start_is, end_is, ap length bytes_are, length-append bytes more);
+      within = omega (arith, end_is);
       utf8 = subst IsUtf8 (sym text_put) utf8;
     }
 
-    pub places_with : (places places_now : List WordPlace) → places_now ≡ places ++ place ∷ [] → ArePlaces texts keys places → ArePlaces texts_now keys_now places_now
-    places_with places places_now with are =
-        subst (ArePlaces texts_now keys_now) (sym with)
-        (All-append (IsPlace texts_now keys_now) places (place ∷ []) (places_stay places are)
-        (All-cons (IsPlace texts_now keys_now) place [] place_put (All-nil (IsPlace texts_now keys_now))))
+    pub text_places_with : (places places_now : List TextPlace) → places_now ≡ places ++ text_more ∷ [] → AreTextPlaces bytes places → AreTextPlaces bytes_now places_now
+    text_places_with places places_now with are =
+        subst (AreTextPlaces bytes_now) (sym with)
+        (All-append (IsTextPlace bytes_now) places (text_more ∷ []) (text_places_stay places are)
+        (All-cons (IsTextPlace bytes_now) text_more [] text_place_put (All-nil (IsTextPlace bytes_now))))
 
-    pub words_with : (places places_now : List WordPlace) → places_now ≡ places ++ place ∷ [] → ArePlaces texts keys places
-        → words_at texts_now keys_now places_now ≡ words_at texts keys places ++ record { text = chars more; key = others } ∷ []
+    pub texts_with : (places places_now : List TextPlace) → places_now ≡ places ++ text_more ∷ [] → AreTextPlaces bytes places
+        → texts_at bytes_now places_now ≡ texts_at bytes places ++ chars more ∷ []
+    texts_with places places_now with are =
+        ap (texts_at bytes_now) with
+        ∙ map-append (text_in bytes_now) places (text_more ∷ [])
+        ∙ ap (λ (texts : List (List ℕ)). texts ++ text_in bytes_now text_more ∷ []) (texts_stay places are)
+        ∙ ap (λ (l : List ℕ). texts_at bytes places ++ chars l ∷ []) text_put
+
+-- Words.
+
+module _ (texts keys others keys_now : List ℕ) (keys_are : keys_now ≡ keys ++ others) where
+  module _ (place : WordPlace) (is : IsPlace texts keys place) where
+    key_stays : slice_range keys_now place.key place.key_end ≡ slice_range keys place.key place.key_end
+    key_stays = ap (λ (l : List ℕ). slice_range l place.key place.key_end) keys_are ∙ part_stays keys others place.key place.key_end is.key is.key_within
+
+    word_stays : word_at texts keys_now place ≡ word_at texts keys place
+    word_stays = ap (λ (key : List ℕ). record { text = chars (text_at texts place); key = key }) key_stays
+
+    place_stays : IsPlace texts keys_now place
+    place_stays = record {
+      text = is.text;
+      text_within = is.text_within;
+      key = is.key;
+      key_within = omega (arith, is.key_within, ap length keys_are, length-append keys others);
+      utf8 = is.utf8;
+    }
+
+  places_stay : (places : List WordPlace) → ArePlaces texts keys places → ArePlaces texts keys_now places
+  places_stay places are = λ k d low. place_stays (get_or places k d) (are k d low)
+
+  words_stay : (places : List WordPlace) → ArePlaces texts keys places → words_at texts keys_now places ≡ words_at texts keys places
+  words_stay [] are = refl
+  words_stay (place ∷ places) are =
+      ap (λ (word : KeyedWord). word ∷ words_at texts keys_now places) (word_stays place (All-first (IsPlace texts keys) place places are))
+      ∙ ap (λ (words : List KeyedWord). word_at texts keys place ∷ words) (words_stay places (All-others (IsPlace texts keys) place places are))
+
+  -- a word more, whose key was put behind the others
+  module _ (text : TextPlace) (is : IsTextPlace texts text) (key key_end : ℕ) (key_is : key ≡ length keys) (key_end_is : key_end ≡ length keys_now) where
+    abbrev word_more : WordPlace
+    word_more = record { text = text.start; text_end = text.end; key = key; key_end = key_end }
+
+    key_put : slice_range keys_now key key_end ≡ others
+    key_put =
+        ap (λ (n : ℕ). slice_range keys_now n key_end) key_is
+        ∙ ap (λ (l : List ℕ). slice_range l (length keys) key_end) keys_are
+        ∙ part_put keys others key_end (key_end_is ∙ ap length keys_are ∙ length-append keys others)
+
+    place_put : IsPlace texts keys_now word_more
+    place_put = record {
+      text = is.order;
+      text_within = is.within;
+      key = omega (arith, key_is, key_end_is, ap length keys_are, length-append keys others);
+      key_within = omega (arith, key_end_is);
+      utf8 = is.utf8;
+    }
+
+    pub places_with : (places places_now : List WordPlace) → places_now ≡ places ++ word_more ∷ [] → ArePlaces texts keys places → ArePlaces texts keys_now places_now
+    places_with places places_now with are =
+        subst (ArePlaces texts keys_now) (sym with)
+        (All-append (IsPlace texts keys_now) places (word_more ∷ []) (places_stay places are)
+        (All-cons (IsPlace texts keys_now) word_more [] place_put (All-nil (IsPlace texts keys_now))))
+
+    pub words_with : (places places_now : List WordPlace) → places_now ≡ places ++ word_more ∷ [] → ArePlaces texts keys places
+        → words_at texts keys_now places_now ≡ words_at texts keys places ++ record { text = text_in texts text; key = others } ∷ []
     words_with places places_now with are =
-        ap (words_at texts_now keys_now) with
-        ∙ map-append (word_at texts_now keys_now) places (place ∷ [])
-        ∙ ap (λ (words : List KeyedWord). words ++ word_at texts_now keys_now place ∷ []) (words_stay places are)
-        ∙ ap (λ (word : KeyedWord). words_at texts keys places ++ word ∷ []) word_put
+        ap (words_at texts keys_now) with
+        ∙ map-append (word_at texts keys_now) places (word_more ∷ [])
+        ∙ ap (λ (words : List KeyedWord). words ++ word_at texts keys_now word_more ∷ []) (words_stay places are)
+        ∙ ap (λ (key : List ℕ). words_at texts keys places ++ record { text = text_in texts text; key = key } ∷ []) key_put
+
+-- one word more has its text
+pub texts_more : (words words_now : List KeyedWord) (word : KeyedWord) (all left later : List (List ℕ)) → words_now ≡ words ++ word ∷ [] → left ≡ word.text ∷ later → all ≡ texts_of words ++ left
+    → all ≡ texts_of words_now ++ later
+texts_more words words_now word all left later with begins same =
+    same
+    ∙ ap (λ (l : List (List ℕ)). texts_of words ++ l) begins
+    ∙ sym (append_assoc (texts_of words) (word.text ∷ []) later)
+    ∙ ap (λ (l : List (List ℕ)). l ++ later) (sym (ap texts_of with ∙ map-append (λ (word : KeyedWord). word.text) words (word ∷ [])))
+
+-- and its key
+pub keys_more : (key : List ℕ → List ℕ) (words words_now : List KeyedWord) (word : KeyedWord) → words_now ≡ words ++ word ∷ [] → word.key ≡ key word.text → AreKeyedBy key words → AreKeyedBy key words_now
+keys_more key words words_now word with is keyed =
+    let has = λ (word : KeyedWord). word.key ≡ key word.text in
+    subst (AreKeyedBy key) (sym with) (All-append has words (word ∷ []) keyed (All-cons has word [] is (All-nil has)))

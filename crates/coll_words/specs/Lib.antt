@@ -7,6 +7,7 @@ pub mod KeyLeads
 pub mod KeyedWords
 pub mod LedWords
 pub mod LentWords
+pub mod LetterKeys
 pub mod LetterWeights
 pub mod ListedKeys
 pub mod ListedWords
@@ -18,8 +19,10 @@ pub mod ReviewLines
 pub mod ReviewRuns
 pub mod ReviewSteps
 pub mod Reviews
+pub mod SortKeys
 pub mod SortRuns
 pub mod SortedWords
+pub mod StoredTexts
 pub mod StoredWords
 pub mod TiedWords
 pub mod WordOrders

@@ -41,11 +41,11 @@ SortRuns table left left_after taken taken_after r =
 abbrev pub SortsWords : List KeyedWord → (sorted : List (List ℕ)) → Type 0
 SortsWords words sorted = (table : Collation) → IsWellFormed table → AreKeyed table words → AreSorted table (texts_of words) sorted
 
--- the words were sorted and written; or a write failed, and a prefix of them was; or memory was refused, and nothing was written
-abbrev pub WritesSorted : Collation → List KeyedWord → (taken taken_after : Option (List ℕ)) → Result (Unit {0}) RunFault → Type 0
-WritesSorted table words taken taken_after (Ok done) =
-    (sorted : List (List ℕ)) × AreSorted table (texts_of words) sorted × Appends taken taken_after (written_words sorted)
-WritesSorted table words taken taken_after (Err ended) =
+-- the texts were sorted and written; or a write failed, and a prefix of them was; or memory was refused, and nothing was written
+abbrev pub WritesSorted : Collation → (texts : List (List ℕ)) → (taken taken_after : Option (List ℕ)) → Result (Unit {0}) RunFault → Type 0
+WritesSorted table texts taken taken_after (Ok done) =
+    (sorted : List (List ℕ)) × AreSorted table texts sorted × Appends taken taken_after (written_words sorted)
+WritesSorted table texts taken taken_after (Err ended) =
     ((ended ≡ starved_in 0) × (taken_after ≡ taken))
-    ⊎ ((ended ≡ write_failed) × (sorted : List (List ℕ)) × AreSorted table (texts_of words) sorted
+    ⊎ ((ended ≡ write_failed) × (sorted : List (List ℕ)) × AreSorted table texts sorted
     × AppendsPrefix taken taken_after (written_words sorted))

@@ -2,11 +2,14 @@
 use Rattle.std.specs.Prelude.{◌≡◌, ◌⊎◌, ◌==◌, ℕ, ◌+◌, if◌then◌else◌, List, [], ◌∷◌, ◌++◌, length, Option, Some, Result, Ok, Err}
 use Rattle.coll_devices.specs.Devices.{raised}
 use Rattle.coll_devices.specs.PhysicalLines.{lines_of}
+use Rattle.coll_nodes.specs.Table.{Collation}
 use Rattle.coll_table.specs.Loads.{IsCutBehind}
+use Rattle.coll_key.specs.SortKey.{key_of}
 use Rattle.coll_bench.specs.Faults.{fault_number}
 use Rattle.coll_bench.specs.BatchRuns.{Ending, ReadFailed, WriteFailed, Starved, Refused, ending_of}
 use Rattle.coll_bench.specs.declared.faults.RunFault.{RunFault}
 use Rattle.coll_words.specs.KeyedWords.{KeyedWord, texts_of}
+use Rattle.coll_words.specs.PackedKeys.{packed_key}
 use Rattle.coll_words.specs.Words.{line_word, words_from, words_of}
 
 -- no line is at fault
@@ -39,6 +42,10 @@ ReadingFails left left_after ended = (text : List ℕ) → left ≡ Some text �
 abbrev pub CountsReading : {T : Type 0} → ℕ → ℕ → Result T RunFault → Type 0
 CountsReading old new (Ok read) = new ≡ old
 CountsReading old new (Err ended) = new ≡ (if fault_number ended.fault == 67 then raised old else old)
+
+-- the key of a word, as a word is kept with it
+abbrev pub word_key : Collation → List ℕ → List ℕ
+word_key table text = packed_key (key_of table text)
 
 -- a word more stands behind others, with the key that this gives for its text
 abbrev pub PutsWord : (List ℕ → List ℕ) → (old : List KeyedWord) → (text : List ℕ) → (new : List KeyedWord) → Type 0

@@ -58,6 +58,14 @@ impl ElementMarks {
         self.count
     }
 
+    /// Whether no element begins with a character, whatever follows it.
+    #[inline(always)]
+    pub fn begin_without(&self, letter: char) -> bool
+        ensures { result ≡ true → slice_index_or self.now.firsts letter 0 ≡ 0 }
+    {
+        self.firsts.get(letter) == 0
+    }
+
     /// Whether no element begins with a character that this text follows.
     #[inline(always)]
     pub fn is_apart(&self, letter: char, rest: &str) -> bool

@@ -49,8 +49,8 @@ pub(crate) fn with_first_key(
     Ok(with)
 }
 
-// Whether the first level is looked at from the front, and has no positions.
-fn begins_plainly(rules: &[Rule]) -> bool
+/// Whether the first level is looked at from the front, and has no positions.
+pub(crate) fn begins_plainly(rules: &[Rule]) -> bool
     ensures { result ≡ begins_plainly rules.now }
 {
     match rules.first() {
@@ -79,9 +79,9 @@ fn with_first_level(keys: Vec<u32>, ranks: &Ranks, text: &str) -> Result<Vec<u32
     Ok(with)
 }
 
-// Puts the numbers of a weight behind others, and leaves room for later ones.
+/// Puts the numbers of a weight behind others, and leaves room for later ones.
 #[inline(always)]
-fn with_weight(
+pub(crate) fn with_weight(
     keys: Vec<u32>,
     weight: WeightRanks<'_>,
     added: u32,

@@ -5,11 +5,12 @@
 //!
 //! - `packed_keys`: sort keys in half the memory, in the same order (`PackedKeys`);
 //! - `words`: a word with its key, and the sort (`KeyedWords`, `LedWords`, `SortedWords`);
-//! - `reading`: the words of an input (`Words`, `WordReading`), put into what `taking_words` says, and `word_texts`: the same without
-//!   keys (`WordTexts`);
-//! - `stored_words`: many words in few blocks of memory (`StoredWords`), with what they are sorted by first, which `first_keys` makes
-//!   (`FirstKeys`); `key_leads`, what these keys begin with as one number (`KeyLeads`); `lent_words`, which are sorted (`LentWords`); and
-//!   `tied_words`, which are sorted by their whole keys;
+//! - `reading`: the words of an input (`Words`, `WordReading`), and `word_texts`: the same without keys (`WordTexts`), put into what
+//!   `taking_texts` says;
+//! - `stored_texts`: many texts in one block of memory (`StoredTexts`); `sort_keys`, what gives these keys (`SortKeys`): `first_keys` by
+//!   the ranks of a table (`FirstKeys`), or `letter_keys` by what their characters weigh (`LetterKeys`), which `text_letters` gathers;
+//!   `stored_words`, the words with what they are sorted by first (`StoredWords`); `key_leads`, what these keys begin with as one number
+//!   (`KeyLeads`); `lent_words`, which are sorted (`LentWords`); and `tied_words`, which are sorted by their whole keys;
 //! - `sorting`: the words of an input are sorted, and written (`SortRuns`);
 //! - `reviewing`: statements are put to a table one by one, and of each it is told what it did to the words of an input
 //!   (`ReviewRuns`). The words are kept by `numbered_words` (`NumberedWords`, `KeptWords`), and `listed_words` has the list of them that
@@ -17,9 +18,9 @@
 //!   that `listed_keys` make (`ListedKeys`), and behind a guess of `word_fronts` where many do; the words are compared by `word_orders`
 //!   (`WordOrders`), where it serves by what their `letters` weigh (`letter_weights`, `LetterWeights`), mostly by the single numbers of
 //!   these at the first level (`first_numbers`, `FirstNumbers`), as far as no element stands among them (`element_marks`,
-//!   `ElementMarks`), which `marked_tables` keep beside the table; `review_lines` with what is told of a statement (`ReviewLines`), and `reviews` with where a review stands
-//!   (`Reviews`, `ReviewSteps`), and which statements move no word (`Declaring`); what is told is kept by `kept_bytes`, and how far a
-//!   review got is told by `progress`.
+//!   `ElementMarks`), which `marked_tables` keep beside the table; `review_lines` with what is told of a statement (`ReviewLines`), and
+//!   `reviews` with where a review stands (`Reviews`, `ReviewSteps`), and which statements move no word (`Declaring`); what is told is
+//!   kept by `kept_bytes`, and how far a review got is told by `progress`.
 #![tactic(auto)]
 
 mod element_marks;
@@ -28,6 +29,7 @@ mod first_numbers;
 mod kept_bytes;
 mod key_leads;
 mod lent_words;
+mod letter_keys;
 mod letter_weights;
 mod letters;
 mod listed_keys;
@@ -41,10 +43,13 @@ mod reading;
 mod review_lines;
 mod reviewing;
 mod reviews;
+mod sort_keys;
 mod sorting;
 mod staying_words;
+mod stored_texts;
 mod stored_words;
-mod taking_words;
+mod taking_texts;
+mod text_letters;
 mod tied_words;
 mod word_fronts;
 mod word_orders;

@@ -59,7 +59,8 @@ impl MarkedTable {
     pub fn put(&mut self, input: usize, at: &StatementAt) -> Result<(), RunFault>
         requires proper { IsProper at.now.statement }
         ensures ok { OnOk result (judged_at input at.now.line (delta (collation self.old) at.now.statement) ≡ Ok (collation self.new)) }
-        ensures err { IfErr result (λ ended. FailsAs (ending_of ended) (judged_at input at.now.line (delta (collation self.old) at.now.statement)) ended) }
+        ensures err { IfErr result (λ ended. FailsAs (ending_of ended)
+            (judged_at input at.now.line (delta (collation self.old) at.now.statement)) ended) }
         ensures number { IfErr result (λ ended. ended.line ≡ at.now.line) }
         ensures input { IfErr result (λ ended. ended.input ≡ input) }
     {

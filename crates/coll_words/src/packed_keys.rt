@@ -61,9 +61,9 @@ pub(crate) fn with_packed(
     }
 }
 
-// What a number is packed as, where that is one number.
+/// What a number is packed as, where that is one number.
 #[inline(always)]
-fn short_number(number: u64) -> Option<u32>
+pub(crate) fn short_number(number: u64) -> Option<u32>
     ensures { MatchOption result (packed_number number ≡ packed_whole number) (λ short. packed_number number ≡ short ∷ []) }
 {
     if number < RANK_STEP {
@@ -86,9 +86,9 @@ fn short_rank(number: u64) -> Option<u32>
     None
 }
 
-// Puts a number behind others, where there is room for it.
+/// Puts a number behind others, where there is room for it.
 #[inline(always)]
-fn with_short(packed: Vec<u32>, short: u32) -> Vec<u32>
+pub(crate) fn with_short(packed: Vec<u32>, short: u32) -> Vec<u32>
     requires { vec_len packed < vec_capacity packed }
     ensures items { result.items ≡ packed.items ++ short ∷ [] }
     ensures len { vec_len result ≡ vec_len packed + 1 }

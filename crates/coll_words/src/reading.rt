@@ -1,26 +1,24 @@
 //! The words of an input are read, each with its key.
 //!
 //! The lines are cut as everywhere; the first that is too long, one too many, or not UTF-8 is the answer, and then no word is handed
-//! out. Where the words are put is told by `taking_words`.
+//! out.
 
-ghost use Rattle.std.specs.Prelude.{◌≡◌, ◌≤◌, ◌+◌, [], length, IfOk, IfErr, OnOk};
+ghost use Rattle.std.specs.Prelude.{◌≡◌, ◌≤◌, ◌+◌, [], chars, false, length, IfOk, IfErr, OnOk};
 ghost use Rattle.coll_devices.specs.LineReading.{no_line};
 ghost use Rattle.coll_devices.specs.Limits.{most_line_bytes};
 ghost use Rattle.coll_lex.specs.Limits.{most_lines};
 ghost use Rattle.coll_nodes.specs.TableLayout.{collation};
 ghost use Rattle.coll_ranks.specs.Ranks.{AreRanksOf};
+ghost use Rattle.coll_key.specs.KeyLimits.{is_too_long};
 ghost use Rattle.coll_bench.specs.BatchOutcome.{fault_in};
 ghost use Rattle.coll_bench.specs.BatchReading.{FailsAs, WritesNone, stopped_in};
 ghost use Rattle.coll_bench.specs.BatchRuns.{ending_of};
-ghost use Rattle.coll_words.specs.FirstKeys.{AreFirstKeyed};
-ghost use Rattle.coll_words.specs.KeyedWords.{AreKeyed, AreKeyedBy};
+ghost use Rattle.coll_words.specs.KeyedWords.{AreKeyed};
 ghost use Rattle.coll_bench.specs.declared.faults.Fault.TheVariants.{Lex};
 ghost use Rattle.coll_lex.specs.declared.faults.LexFault.TheVariants.{OutOfMemory};
-ghost use Rattle.coll_words.specs.WordReading.{AreWordsOf, ReadingFails, CountsReading, TakesLine};
-ghost use Rattle.coll_words.specs.Words.{line_word};
+ghost use Rattle.coll_words.specs.WordReading.{AreWordsOf, ReadingFails, CountsReading, PutsWord, TakesLine, word_key};
+ghost use Rattle.coll_words.specs.Words.{line_word, unless_long};
 
-use crate::stored_words::StoredWords;
-use crate::taking_words::TakesWords;
 use crate::words::Word;
 use coll_bench::{Fault, RunFault};
 use coll_devices::{LineReader, ReadStop, Source, without_return};
@@ -81,44 +79,19 @@ fn read_listed_words<R: Source>(
     }
 }
 
-/// Reads the words of an input, in the same way, into a store of them all, by the ranks of the table.
-pub(crate) fn read_stored_words<R: Source>(
-    alloc: Global,
-    table: &Table,
-    ranks: &Ranks,
-    input: &mut R,
-) -> Result<StoredWords, RunFault>
-    requires { AreRanksOf ranks.now (collation table.now) }
-    ensures words { IfOk result (λ words. AreWordsOf (R.left input.old) words) }
-    ensures fault { IfErr result (λ ended. ReadingFails (R.left input.old) (R.left input.new) ended) }
-    ensures keyed { IfOk result (λ words. AreFirstKeyed (collation table.now) words) }
-    ensures input { IfErr result (λ ended. ended.input ≡ 0) }
-    ensures writes { IfErr result (λ ended. WritesNone ended) }
-    ensures reads { CountsReading (R.failed input.old) (R.failed input.new) result }
-{
-    let mut words = StoredWords::new(alloc);
-    match read_by_ranks(alloc, table, ranks, input, &mut words) {
-        Ok(()) => Ok(words),
-        Err(ended) => {
-            drop(words);
-            Err(ended)
-        }
-    }
-}
-
 // Reads the words of an input, by the ranks of the table, and puts them where there are none.
-fn read_by_ranks<R: Source, L: TakesWords>(
+fn read_by_ranks<R: Source>(
     alloc: Global,
     table: &Table,
     ranks: &Ranks,
     input: &mut R,
-    words: &mut L,
+    words: &mut Vec<Word>,
 ) -> Result<(), RunFault>
     requires ranks { AreRanksOf ranks.now (collation table.now) }
-    requires none { L.words words.old ≡ [] }
-    ensures words { OnOk result (AreWordsOf (R.left input.old) (L.words words.new)) }
+    requires none { words.old.items ≡ [] }
+    ensures words { OnOk result (AreWordsOf (R.left input.old) words.new.items) }
     ensures fault { IfErr result (λ ended. ReadingFails (R.left input.old) (R.left input.new) ended) }
-    ensures keyed { OnOk result (AreKeyedBy (L.keys (collation table.now)) (L.words words.new)) }
+    ensures keyed { OnOk result (AreKeyed (collation table.now) words.new.items) }
     ensures input { IfErr result (λ ended. ended.input ≡ 0) }
     ensures writes { IfErr result (λ ended. WritesNone ended) }
     ensures reads { CountsReading (R.failed input.old) (R.failed input.new) result }
@@ -134,20 +107,20 @@ fn read_by_ranks<R: Source, L: TakesWords>(
 }
 
 // Reads the lines of an input, of which none was read yet, and puts the word of each where there are none.
-fn read_lines<R: Source, L: TakesWords>(
+fn read_lines<R: Source>(
     alloc: Global,
     table: &Table,
     ranks: &Ranks,
     reader: &mut LineReader,
     input: &mut R,
-    words: &mut L,
+    words: &mut Vec<Word>,
 ) -> Result<(), RunFault>
     requires ranks { AreRanksOf ranks.now (collation table.now) }
     requires reader { reader.old ≡ no_line }
-    requires none { L.words words.old ≡ [] }
-    ensures words { OnOk result (AreWordsOf (R.left input.old) (L.words words.new)) }
+    requires none { words.old.items ≡ [] }
+    ensures words { OnOk result (AreWordsOf (R.left input.old) words.new.items) }
     ensures fault { IfErr result (λ ended. ReadingFails (R.left input.old) (R.left input.new) ended) }
-    ensures keyed { OnOk result (AreKeyedBy (L.keys (collation table.now)) (L.words words.new)) }
+    ensures keyed { OnOk result (AreKeyed (collation table.now) words.new.items) }
     ensures input { IfErr result (λ ended. ended.input ≡ 0) }
     ensures writes { IfErr result (λ ended. WritesNone ended) }
     ensures reads { CountsReading (R.failed input.old) (R.failed input.new) result }
@@ -161,40 +134,65 @@ fn read_lines<R: Source, L: TakesWords>(
                 }
             }
             Ok(false) => return Ok(()),
-            Err(stop) => return Err(stop_fault(next_number(words.count()), stop)),
+            Err(stop) => return Err(stop_fault(next_number(words.len()), stop)),
         }
     }
 }
 
 // Puts the word of a line behind those of the lines before it.
-fn take_line<L: TakesWords>(
+fn take_line(
     alloc: Global,
     table: &Table,
     ranks: &Ranks,
     line: &[u8],
-    words: &mut L,
+    words: &mut Vec<Word>,
 ) -> Result<(), RunFault>
     requires ranks { AreRanksOf ranks.now (collation table.now) }
     requires short { length line.now ≤ most_line_bytes }
-    requires few { length (L.words words.old) ≤ most_lines }
-    ensures ok { OnOk result (TakesLine (L.keys (collation table.now)) (L.words words.old) line.now (L.words words.new)) }
-    ensures room { OnOk result (length (L.words words.new) ≤ most_lines) }
-    ensures err { IfErr result (λ ended. FailsAs (ending_of ended) (line_word (length (L.words words.old)) line.now) ended) }
-    ensures number { IfErr result (λ ended. ended.line ≡ length (L.words words.old) + 1) }
+    requires few { length words.old.items ≤ most_lines }
+    ensures ok { OnOk result (TakesLine (word_key (collation table.now)) words.old.items line.now words.new.items) }
+    ensures room { OnOk result (length words.new.items ≤ most_lines) }
+    ensures err { IfErr result (λ ended. FailsAs (ending_of ended) (line_word (length words.old.items) line.now) ended) }
+    ensures number { IfErr result (λ ended. ended.line ≡ length words.old.items + 1) }
     ensures input { IfErr result (λ ended. ended.input ≡ 0) }
 {
-    let number = next_number(words.count());
+    let number = next_number(words.len());
     if number > MOST_LINES {
         return Err(fault_at(number, Fault::Lex(LexFault::TooManyLines)));
     }
     match str::from_utf8(without_return(line)) {
-        Ok(text) => words.put(alloc, table, ranks, number, text),
+        Ok(text) => put_word(alloc, table, ranks, number, text, words),
         Err(_) => Err(fault_at(number, Fault::Lex(LexFault::NotUtf8))),
     }
 }
 
-// The number of the line behind this many.
-fn next_number(words: usize) -> u32
+// Puts a word behind others, that of the line with this number, with its key by a table.
+fn put_word(
+    alloc: Global,
+    table: &Table,
+    ranks: &Ranks,
+    number: u32,
+    text: &str,
+    words: &mut Vec<Word>,
+) -> Result<(), RunFault>
+    requires { AreRanksOf ranks.now (collation table.now) }
+    ensures ok { OnOk result (PutsWord (word_key (collation table.now)) words.old.items (chars text.now) words.new.items) }
+    ensures short { OnOk result (is_too_long (chars text.now) ≡ false) }
+    ensures err { IfErr result (λ ended. FailsAs (ending_of ended) (unless_long number (chars text.now)) ended) }
+    ensures number { IfErr result (λ ended. ended.line ≡ number) }
+    ensures input { IfErr result (λ ended. ended.input ≡ 0) }
+{
+    match Word::new(alloc, table, ranks, text) {
+        Ok(word) => match words.push(word) {
+            Ok(()) => Ok(()),
+            Err(_) => Err(no_memory(number)),
+        },
+        Err(fault) => Err(fault_at(number, Fault::Key(fault))),
+    }
+}
+
+/// The number of the line behind this many.
+pub(crate) fn next_number(words: usize) -> u32
     requires { words ≤ most_lines }
     ensures { result ≡ words + 1 }
 {

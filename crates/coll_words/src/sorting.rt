@@ -7,22 +7,25 @@
 ghost use Rattle.std.specs.Prelude.{◌≡◌, IfErr, IfOk};
 ghost use Rattle.coll_devices.specs.Devices.{Sends};
 ghost use Rattle.coll_nodes.specs.TableLayout.{collation};
-ghost use Rattle.coll_ranks.specs.Ranks.{AreRanksOf};
 ghost use Rattle.coll_bench.specs.Serving.{CountsWrites, ReadsNone, write_failed};
 ghost use Rattle.coll_words.specs.FirstKeys.{AreFirstKeyed};
 ghost use Rattle.coll_words.specs.KeyedWords.{texts_of};
+ghost use Rattle.coll_words.specs.SortKeys.{Give};
 ghost use Rattle.coll_words.specs.SortRuns.{SortRuns, WritesSorted};
 ghost use Rattle.coll_words.specs.SortedWords.{AreSorted};
 ghost use Rattle.coll_words.specs.WordReading.{CountsReading};
 ghost use Rattle.coll_words.specs.Words.{written_words};
 
 use crate::lent_words::{LentWord, sort_lent_words, write_lent_words};
-use crate::reading::{fault_at, no_memory, read_stored_words};
+use crate::reading::{fault_at, no_memory};
+use crate::sort_keys::SortKeys;
+use crate::stored_texts::StoredTexts;
 use crate::stored_words::StoredWords;
 use crate::tied_words::sort_ties;
+use crate::word_texts::read_stored_texts;
 use coll_bench::{Fault, RunFault};
 use coll_devices::{Sink, Source, WriteStop};
-use coll_key::{KeyFault, Ranks};
+use coll_key::KeyFault;
 use coll_table::Table;
 use std::alloc::Global;
 
@@ -43,37 +46,60 @@ pub fn sort_lines<R: Source, W: Sink>(
     ensures reads { CountsReading (R.failed input.old) (R.failed input.new) result }
     ensures writes { CountsWrites (W.failed output.old) (W.failed output.new) result }
 {
-    match Ranks::new(alloc, table) {
-        Ok(ranks) => {
-            let wrote = sort_by_ranks(alloc, table, &ranks, input, output);
-            drop(ranks);
+    match read_stored_texts(alloc, input) {
+        Ok(texts) => {
+            let wrote = sort_texts(alloc, table, &texts, output);
+            drop(texts);
+            wrote
+        }
+        Err(ended) => Err(ended),
+    }
+}
+
+// Sorts the words with these texts, and writes them.
+fn sort_texts<W: Sink>(
+    alloc: Global,
+    table: &Table,
+    texts: &StoredTexts,
+    output: &mut W,
+) -> Result<(), RunFault>
+    ensures run { WritesSorted (collation table.now) texts.now (W.taken output.old) (W.taken output.new) result }
+    ensures input { IfErr result (λ ended. ended.input ≡ 0) }
+    ensures reads { IfErr result (λ ended. ReadsNone ended) }
+    ensures writes { CountsWrites (W.failed output.old) (W.failed output.new) result }
+{
+    match SortKeys::of(alloc, table, texts) {
+        Ok(by) => {
+            let wrote = sort_by(alloc, table, &by, texts, output);
+            drop(by);
             wrote
         }
         Err(_) => Err(no_memory(0)),
     }
 }
 
-// Reads the lines of an input, and writes them in the order of a table, by its ranks.
-fn sort_by_ranks<R: Source, W: Sink>(
+// The same, by what gives the words their keys.
+fn sort_by<W: Sink>(
     alloc: Global,
     table: &Table,
-    ranks: &Ranks,
-    input: &mut R,
+    by: &SortKeys,
+    texts: &StoredTexts,
     output: &mut W,
 ) -> Result<(), RunFault>
-    requires { AreRanksOf ranks.now (collation table.now) }
-    ensures run { SortRuns (collation table.now) (R.left input.old) (R.left input.new) (W.taken output.old) (W.taken output.new) result }
+    requires { Give table.now by.now }
+    ensures run { WritesSorted (collation table.now) texts.now (W.taken output.old) (W.taken output.new) result }
     ensures input { IfErr result (λ ended. ended.input ≡ 0) }
-    ensures reads { CountsReading (R.failed input.old) (R.failed input.new) result }
+    ensures reads { IfErr result (λ ended. ReadsNone ended) }
     ensures writes { CountsWrites (W.failed output.old) (W.failed output.new) result }
 {
-    match read_stored_words(alloc, table, ranks, input) {
+    match StoredWords::keyed(alloc, table, by, texts) {
         Ok(words) => {
-            let wrote = write_sorted(alloc, table, ranks, &words, output);
+            let wrote = write_sorted(alloc, table, by, &words, output);
             drop(words);
             wrote
         }
-        Err(ended) => Err(ended),
+        // For lack of memory: no line is long enough to have a word without a key.
+        Err(_) => Err(no_memory(0)),
     }
 }
 
@@ -81,18 +107,18 @@ fn sort_by_ranks<R: Source, W: Sink>(
 fn write_sorted<W: Sink>(
     alloc: Global,
     table: &Table,
-    ranks: &Ranks,
-    words: &StoredWords,
+    by: &SortKeys,
+    words: &StoredWords<'_>,
     output: &mut W,
 ) -> Result<(), RunFault>
-    requires ranks { AreRanksOf ranks.now (collation table.now) }
+    requires by { Give table.now by.now }
     requires keyed { AreFirstKeyed (collation table.now) words.now }
-    ensures run { WritesSorted (collation table.now) words.now (W.taken output.old) (W.taken output.new) result }
+    ensures run { WritesSorted (collation table.now) (texts_of words.now) (W.taken output.old) (W.taken output.new) result }
     ensures input { IfErr result (λ ended. ended.input ≡ 0) }
     ensures reads { IfErr result (λ ended. ReadsNone ended) }
     ensures writes { CountsWrites (W.failed output.old) (W.failed output.new) result }
 {
-    match sorted(alloc, table, ranks, words) {
+    match sorted(alloc, table, by, words) {
         Ok(lent) => {
             let wrote = write_all(&lent, output);
             drop(lent);
@@ -107,17 +133,17 @@ fn write_sorted<W: Sink>(
 fn sorted<'a>(
     alloc: Global,
     table: &Table,
-    ranks: &Ranks,
-    words: &'a StoredWords,
+    by: &SortKeys,
+    words: &'a StoredWords<'_>,
 ) -> Result<Vec<LentWord<'a>>, KeyFault>
-    requires ranks { AreRanksOf ranks.now (collation table.now) }
+    requires by { Give table.now by.now }
     requires keyed { AreFirstKeyed (collation table.now) words.now }
     ensures { IfOk result (λ lent. AreSorted (collation table.now) (texts_of words.now) (texts_of lent.items)) }
 {
     table.lemma_well_formed();
     let mut lent = words.lend(alloc)?;
     sort_lent_words(&mut lent)?;
-    sort_ties(alloc, table, ranks, &mut lent)?;
+    sort_ties(alloc, table, by, &mut lent)?;
     Ok(lent)
 }
 

@@ -1,29 +1,26 @@
-//! Words with what they are sorted by first, all of them in three blocks of memory.
+//! Words with what they are sorted by first, over texts that stay elsewhere.
 //!
-//! A word by itself (`words`) has memory of its own for its key, and for a long text. Here all texts stand one behind another, and so
-//! do all keys, and a word is where its own begin and end: so many words ask for hardly more blocks than one, and take less. A key is
-//! what `first_keys` makes, right where it stays; `lent_words` has the sort.
+//! A word by itself (`words`) has memory of its own for its key, and for a long text. Here all texts stand one behind another
+//! (`stored_texts`), and so do all keys, and a word is where its own begin and end: so many words ask for hardly more blocks than one,
+//! and take less. A key is what `sort_keys` gives, right where it stays; `lent_words` has the sort.
 
-ghost use Rattle.std.specs.Prelude.{◌≡◌, ◌≢◌, ◌≤◌, [], ◌∷◌, ◌++◌, chars, length, true, false, IfErr, IfOk, IfSome, OnOk};
+ghost use Rattle.std.specs.Prelude.{◌≡◌, [], IfOk, IfSome};
 ghost use Rattle.coll_nodes.specs.TableLayout.{collation};
-ghost use Rattle.coll_ranks.specs.Ranks.{AreRanksOf};
-ghost use Rattle.coll_key.specs.KeyLimits.{is_too_long};
-ghost use Rattle.coll_key.specs.declared.key_faults.KeyFault.TheVariants.{OutOfMemory};
-ghost use Rattle.coll_words.specs.FirstKeys.{packed_first_key};
+ghost use Rattle.coll_words.specs.FirstKeys.{AreFirstKeyed};
+ghost use Rattle.coll_words.specs.KeyedWords.{texts_of};
 ghost use Rattle.coll_words.specs.LentWords.{AreLent, IsLent};
+ghost use Rattle.coll_words.specs.SortKeys.{Give};
+ghost use Rattle.coll_words.specs.StoredTexts.{AreTextPlaces, texts_at};
 ghost use Rattle.coll_words.specs.StoredWords.{ArePlaces, IsPlace, word_at, words_at};
 
-use crate::first_keys::with_first_key;
 use crate::key_leads::LeadDigits;
 use crate::lent_words::LentWord;
-use crate::reading::fault_at;
-use crate::taking_words::TakesWords;
-use coll_bench::{Fault, RunFault};
-use coll_key::{KeyFault, Ranks};
+use crate::sort_keys::SortKeys;
+use crate::stored_texts::{StoredTexts, TextPlace, text_of};
+use coll_key::KeyFault;
 use coll_table::Table;
 use std::alloc::{AllocError, Global};
 use std::marker::Model;
-use std::mem::replace;
 
 /// Where the text and the key of a word stand.
 #[derive(Clone, Copy)]
@@ -36,15 +33,15 @@ struct WordPlace {
 
 /// Words with what they are sorted by first.
 #[derive(Drop)]
-pub(crate) struct StoredWords {
+pub(crate) struct StoredWords<'a> {
     // The texts, in UTF-8.
-    texts: Vec<u8>,
+    texts: &'a [u8],
     // The keys, packed.
     keys: Vec<u32>,
     places: Vec<WordPlace>,
 }
 
-impl Model for StoredWords {
+impl<'a> Model for StoredWords<'a> {
     ghost use Rattle.std.specs.Prelude.{List};
     ghost use Rattle.coll_words.specs.KeyedWords.{KeyedWord};
     ghost use Rattle.coll_words.specs.LentWords.{AreLent, IsLent};
@@ -52,66 +49,25 @@ impl Model for StoredWords {
 
     ghost Value = { List KeyedWord };
 
-    ghost view = { λ s. words_at s.texts.items s.keys.items s.places.items };
+    ghost view = { λ s. words_at s.texts.now s.keys.items s.places.items };
 
-    ghost invariant = { λ s. ArePlaces s.texts.items s.keys.items s.places.items };
+    ghost invariant = { λ s. ArePlaces s.texts.now s.keys.items s.places.items };
 }
 
-impl StoredWords {
-    /// No words. It takes no memory.
-    pub fn new(alloc: Global) -> StoredWords
-        ensures { result ≡ [] }
-    {
-        StoredWords {
-            texts: Vec::new(alloc),
-            keys: Vec::new(alloc),
-            places: Vec::new(alloc),
-        }
-    }
-
-    /// How many words there are.
-    pub fn len(&self) -> usize
-        ensures { result ≡ length self.now }
-    {
-        self.places.len()
-    }
-
-    /// Puts a text behind the others, with what it is sorted by first by a table. Where memory is refused, the words are given up.
-    ///
-    /// The ranks must be those of the table as it stands.
-    pub fn put_text(
-        &mut self,
+impl<'a> StoredWords<'a> {
+    /// The words with these texts, with what they are sorted by first by a table, in new memory for the keys.
+    pub fn keyed(
         alloc: Global,
         table: &Table,
-        ranks: &Ranks,
-        text: &str,
-    ) -> Result<(), KeyFault>
-        requires { AreRanksOf ranks.now (collation table.now) }
-        ensures word { OnOk result (self.new ≡ self.old
-            ++ record { text = chars text.now; key = packed_first_key (collation table.now) (chars text.now) } ∷ []) }
-        ensures short { OnOk result (is_too_long (chars text.now) ≡ false) }
-        ensures err { IfErr result (λ fault. fault ≢ OutOfMemory → is_too_long (chars text.now) ≡ true) }
+        by: &SortKeys,
+        texts: &'a StoredTexts,
+    ) -> Result<StoredWords<'a>, KeyFault>
+        requires { Give table.now by.now }
+        ensures texts { IfOk result (λ words. texts_of words ≡ texts.now) }
+        ensures keyed { IfOk result (λ words. AreFirstKeyed (collation table.now) words) }
     {
-        let (text_start, key_start) = (self.texts.len(), self.keys.len());
-        self.places.reserve(1)?;
-        self.texts.extend_from_slice(text.as_bytes())?;
-        let keys = replace(&mut self.keys, Vec::new(alloc));
-        match with_first_key(alloc, table, ranks, keys, text) {
-            Ok(keys) => {
-                self.keys = keys;
-                self.places.push_reserved(WordPlace {
-                    text: text_start,
-                    text_end: self.texts.len(),
-                    key: key_start,
-                    key_end: self.keys.len(),
-                });
-                Ok(())
-            }
-            Err(fault) => {
-                self.places.clear();
-                Err(fault)
-            }
-        }
+        let (bytes, places) = texts.parts();
+        keyed_at(alloc, table, by, bytes, places)
     }
 
     /// Lends the words one by one, in a list in new memory, with their leads. Words that are in order as they stand need none.
@@ -131,7 +87,7 @@ impl StoredWords {
     fn lend_plainly(&self, alloc: Global) -> Result<Vec<LentWord<'_>>, AllocError>
         ensures { IfOk result (λ words. AreLent self.now words.items) }
     {
-        lent_plainly(alloc, &self.texts, &self.keys, &self.places)
+        lent_plainly(alloc, self.texts, &self.keys, &self.places)
     }
 
     // Lends the words with their leads, if each number has a digit.
@@ -139,8 +95,41 @@ impl StoredWords {
         ensures { IfOk result (λ found. IfSome found (λ words. AreLent self.now words.items)) }
     {
         let digits = LeadDigits::of(alloc, &self.keys)?;
-        led_at(alloc, &digits, &self.texts, &self.keys, &self.places)
+        led_at(alloc, &digits, self.texts, &self.keys, &self.places)
     }
+}
+
+// The words with the texts at places, with what they are sorted by first by a table.
+fn keyed_at<'a>(
+    alloc: Global,
+    table: &Table,
+    by: &SortKeys,
+    texts: &'a [u8],
+    text_places: &[TextPlace],
+) -> Result<StoredWords<'a>, KeyFault>
+    requires by { Give table.now by.now }
+    requires places { AreTextPlaces texts.now text_places.now }
+    ensures texts { IfOk result (λ words. texts_of words ≡ texts_at texts.now text_places.now) }
+    ensures keyed { IfOk result (λ words. AreFirstKeyed (collation table.now) words) }
+{
+    let mut keys = Vec::new(alloc);
+    let mut places = Vec::with_capacity(alloc, text_places.len())?;
+    for place in text_places {
+        let key_start = keys.len();
+        let text = text_of(&texts[place.start..place.end]);
+        keys = by.with_first_key(alloc, table, keys, text)?;
+        places.push(WordPlace {
+            text: place.start,
+            text_end: place.end,
+            key: key_start,
+            key_end: keys.len(),
+        })?;
+    }
+    Ok(StoredWords {
+        texts,
+        keys,
+        places,
+    })
 }
 
 // Whether no key is less than the one before it. It is only a guess, which spares the leads.
@@ -221,28 +210,4 @@ fn lent<'a>(texts: &'a [u8], keys: &'a [u32], place: &WordPlace) -> LentWord<'a>
         &texts[place.text..place.text_end],
         &keys[place.key..place.key_end],
     )
-}
-
-impl TakesWords for StoredWords {
-    ghost words = { λ words. words };
-
-    ghost keys = { packed_first_key };
-
-    fn count(&self) -> usize {
-        self.len()
-    }
-
-    fn put(
-        &mut self,
-        alloc: Global,
-        table: &Table,
-        ranks: &Ranks,
-        number: u32,
-        text: &str,
-    ) -> Result<(), RunFault> {
-        match self.put_text(alloc, table, ranks, text) {
-            Ok(()) => Ok(()),
-            Err(fault) => Err(fault_at(number, Fault::Key(fault))),
-        }
-    }
 }

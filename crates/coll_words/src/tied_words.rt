@@ -7,19 +7,20 @@ ghost use Rattle.std.specs.Prelude.{◌≡◌, ◌≢◌, ◌<◌, ◌≤◌, �
 ghost use Rattle.std.specs.List.Sorted.{IsSortedBy};
 ghost use Rattle.std.specs.Str.{IsUtf8};
 ghost use Rattle.coll_nodes.specs.TableLayout.{collation};
-ghost use Rattle.coll_ranks.specs.Ranks.{AreRanksOf};
 ghost use Rattle.coll_words.specs.KeyedWords.{AreKeyed, AreSortedByKeys, has_less_key, texts_of};
 ghost use Rattle.coll_words.specs.LentWords.{AreLedFirst};
+ghost use Rattle.coll_words.specs.SortKeys.{Give};
 ghost use Rattle.coll_words.specs.SortedWords.{AreSorted};
 ghost use Rattle.coll_words.specs.TiedWords.{AreAlike, EndsRun};
 
 use crate::lent_words::LentWord;
 use crate::packed_keys::packed_key;
-use coll_key::{KeyFault, Ranks, key};
+use crate::sort_keys::SortKeys;
+use crate::stored_texts::text_of;
+use coll_key::KeyFault;
 use coll_table::Table;
 use std::alloc::{AllocError, Global};
 use std::marker::Model;
-use std::str;
 
 /// A text with its whole key.
 #[derive(Drop)]
@@ -49,42 +50,30 @@ impl<'a> TiedWord<'a> {
     fn new(
         alloc: Global,
         table: &Table,
-        ranks: &Ranks,
+        by: &SortKeys,
         text: &'a [u8],
     ) -> Result<TiedWord<'a>, KeyFault>
-        requires ranks { AreRanksOf ranks.now (collation table.now) }
+        requires by { Give table.now by.now }
         requires utf8 { IsUtf8 text.now }
         ensures text { IfOk result (λ word. word.text ≡ chars text.now) }
         ensures key { IfOk result (λ word. IsKeyed (collation table.now) word) }
     {
-        let numbers = key(alloc, table, ranks, text_of(text))?;
+        let numbers = by.key(alloc, table, text_of(text))?;
         let key = packed_key(alloc, &numbers)?;
         Ok(TiedWord { text, key })
     }
 }
 
-// The text of bytes.
-fn text_of(bytes: &[u8]) -> &str
-    requires { IsUtf8 bytes.now }
-    ensures { chars result.now ≡ chars bytes.now }
-{
-    match str::from_utf8(bytes) {
-        Ok(text) => text,
-        // Never: the bytes are those of a text.
-        Err(_) => "",
-    }
-}
-
 /// Sorts words, which are sorted by what they are sorted by first, by a table.
 ///
-/// The ranks must be those of the table as it stands.
+/// The keys must be by the table as it stands.
 pub(crate) fn sort_ties(
     alloc: Global,
     table: &Table,
-    ranks: &Ranks,
+    by: &SortKeys,
     words: &mut [LentWord<'_>],
 ) -> Result<(), KeyFault>
-    requires ranks { AreRanksOf ranks.now (collation table.now) }
+    requires by { Give table.now by.now }
     requires led { AreLedFirst (collation table.now) words.old }
     requires sorted { IsSortedBy has_less_key words.old }
     ensures { OnOk result (AreSorted (collation table.now) (texts_of words.old) (texts_of words.new)) }
@@ -94,7 +83,7 @@ pub(crate) fn sort_ties(
     'runs: while start < words.len() {
         let end = run_end(words, start);
         // Not `?`: behind its conversion this exit would need a lemma.
-        if let Err(fault) = sort_run(alloc, table, ranks, &mut words[start..end]) {
+        if let Err(fault) = sort_run(alloc, table, by, &mut words[start..end]) {
             return Err(fault);
         }
         start = end;
@@ -123,17 +112,17 @@ fn run_end(words: &[LentWord<'_>], start: usize) -> usize
 fn sort_run(
     alloc: Global,
     table: &Table,
-    ranks: &Ranks,
+    by: &SortKeys,
     run: &mut [LentWord<'_>],
 ) -> Result<(), KeyFault>
-    requires { AreRanksOf ranks.now (collation table.now) }
+    requires { Give table.now by.now }
     ensures { OnOk result (AreSorted (collation table.now) (texts_of run.old) (texts_of run.new)) }
 {
     table.lemma_well_formed();
     if are_same(run) {
         return Ok(());
     }
-    match sorted_run(alloc, table, ranks, run) {
+    match sorted_run(alloc, table, by, run) {
         Ok(tied) => {
             put_texts(run, &tied);
             drop(tied);
@@ -161,14 +150,14 @@ fn are_same(words: &[LentWord<'_>]) -> bool
 fn sorted_run<'a>(
     alloc: Global,
     table: &Table,
-    ranks: &Ranks,
+    by: &SortKeys,
     run: &[LentWord<'a>],
 ) -> Result<Vec<TiedWord<'a>>, KeyFault>
-    requires { AreRanksOf ranks.now (collation table.now) }
+    requires { Give table.now by.now }
     ensures { IfOk result (λ tied. AreSorted (collation table.now) (texts_of run.now) (texts_of tied.items)) }
 {
     table.lemma_well_formed();
-    let mut tied = tied_words(alloc, table, ranks, run)?;
+    let mut tied = tied_words(alloc, table, by, run)?;
     sort_tied(&mut tied)?;
     Ok(tied)
 }
@@ -177,16 +166,16 @@ fn sorted_run<'a>(
 fn tied_words<'a>(
     alloc: Global,
     table: &Table,
-    ranks: &Ranks,
+    by: &SortKeys,
     run: &[LentWord<'a>],
 ) -> Result<Vec<TiedWord<'a>>, KeyFault>
-    requires { AreRanksOf ranks.now (collation table.now) }
+    requires { Give table.now by.now }
     ensures texts { IfOk result (λ tied. texts_of tied.items ≡ texts_of run.now) }
     ensures keyed { IfOk result (λ tied. AreKeyed (collation table.now) tied.items) }
 {
     let mut tied = Vec::with_capacity(alloc, run.len())?;
     for word in run {
-        let word = TiedWord::new(alloc, table, ranks, word.text())?;
+        let word = TiedWord::new(alloc, table, by, word.text())?;
         tied.push(word)?;
     }
     Ok(tied)

@@ -249,8 +249,8 @@ fn serve(letters: &Letters, marks: &ElementMarks) -> bool
     marks.are_all_apart(text)
 }
 
-// How many characters of words have rows of their own.
-fn most_letters(table: &Table) -> usize {
+/// How many characters of words have rows of their own.
+pub(crate) fn most_letters(table: &Table) -> usize {
     FEW_LETTERS + table.len() / ENTRIES_A_LETTER
 }
 

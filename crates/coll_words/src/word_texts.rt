@@ -1,8 +1,8 @@
 //! Words that are read before it is known what their keys are made by.
 //!
-//! Where words are few beside the table, their keys are made by the places of its entries alone, and no ranks of the whole table are
-//! made; but how many they are is known only once all are read. So they are read here without keys, as `reading` reads them with
-//! keys, and each gets its key afterwards.
+//! Where words are few beside the table, or have few characters, their keys are made by the places of its entries alone, and no ranks
+//! of the whole table are made; but that is known only once all are read. So they are read here without keys, as `reading` reads them
+//! with keys, and each gets its key afterwards. Where the texts are put is told by `taking_texts`.
 
 ghost use Rattle.std.specs.Prelude.{◌≡◌, ◌≤◌, ◌+◌, ◌++◌, ◌∷◌, [], chars, length, false, IfOk, IfErr, OnOk};
 ghost use Rattle.coll_devices.specs.LineReading.{no_line};
@@ -15,14 +15,16 @@ ghost use Rattle.coll_words.specs.WordReading.{CountsReading, ReadingFails};
 ghost use Rattle.coll_words.specs.WordTexts.{AreTextsOf, TakesText};
 ghost use Rattle.coll_words.specs.Words.{line_word, unless_long};
 
-use crate::reading::{fault_at, no_memory, stop_fault};
+use crate::reading::{fault_at, next_number, no_memory, stop_fault};
+use crate::stored_texts::StoredTexts;
+use crate::taking_texts::TakesTexts;
 use crate::words::Word;
 use coll_bench::{Fault, RunFault};
 use coll_devices::{LineReader, Source, without_return};
 use coll_key::{EntryNumbers, KeyFault, is_too_long, key_of_text};
 use coll_lex::{LexFault, MOST_LINES, TextBuf};
 use coll_table::Table;
-use std::alloc::Global;
+use std::alloc::{AllocError, Global};
 use std::str;
 
 impl Word {
@@ -64,33 +66,70 @@ pub fn read_texts<R: Source>(alloc: Global, input: &mut R) -> Result<Vec<TextBuf
     ensures writes { IfErr result (λ ended. WritesNone ended) }
     ensures reads { CountsReading (R.failed input.old) (R.failed input.new) result }
 {
+    let mut texts = Vec::new(alloc);
+    match read_into(alloc, input, &mut texts) {
+        Ok(()) => Ok(texts),
+        Err(ended) => {
+            drop(texts);
+            Err(ended)
+        }
+    }
+}
+
+/// Reads the words of an input, in the same way, into a store of them all.
+pub(crate) fn read_stored_texts<R: Source>(
+    alloc: Global,
+    input: &mut R,
+) -> Result<StoredTexts, RunFault>
+    ensures texts { IfOk result (λ texts. AreTextsOf (R.left input.old) texts) }
+    ensures fault { IfErr result (λ ended. ReadingFails (R.left input.old) (R.left input.new) ended) }
+    ensures input { IfErr result (λ ended. ended.input ≡ 0) }
+    ensures writes { IfErr result (λ ended. WritesNone ended) }
+    ensures reads { CountsReading (R.failed input.old) (R.failed input.new) result }
+{
+    let mut texts = StoredTexts::new(alloc);
+    match read_into(alloc, input, &mut texts) {
+        Ok(()) => Ok(texts),
+        Err(ended) => {
+            drop(texts);
+            Err(ended)
+        }
+    }
+}
+
+// Reads the words of an input, and puts their texts where there are none.
+fn read_into<R: Source, L: TakesTexts>(
+    alloc: Global,
+    input: &mut R,
+    texts: &mut L,
+) -> Result<(), RunFault>
+    requires { L.texts texts.old ≡ [] }
+    ensures texts { OnOk result (AreTextsOf (R.left input.old) (L.texts texts.new)) }
+    ensures fault { IfErr result (λ ended. ReadingFails (R.left input.old) (R.left input.new) ended) }
+    ensures input { IfErr result (λ ended. ended.input ≡ 0) }
+    ensures writes { IfErr result (λ ended. WritesNone ended) }
+    ensures reads { CountsReading (R.failed input.old) (R.failed input.new) result }
+{
     match LineReader::new(alloc) {
         Ok(mut reader) => {
-            let mut texts = Vec::new(alloc);
-            let read = read_lines(alloc, &mut reader, input, &mut texts);
+            let read = read_lines(alloc, &mut reader, input, texts);
             drop(reader);
-            match read {
-                Ok(()) => Ok(texts),
-                Err(ended) => {
-                    drop(texts);
-                    Err(ended)
-                }
-            }
+            read
         }
         Err(_) => Err(no_memory(0)),
     }
 }
 
-// Reads the lines of an input, of which none was read yet, and puts the text of each into a list.
-fn read_lines<R: Source>(
+// Reads the lines of an input, of which none was read yet, and puts the text of each where there are none.
+fn read_lines<R: Source, L: TakesTexts>(
     alloc: Global,
     reader: &mut LineReader,
     input: &mut R,
-    texts: &mut Vec<TextBuf>,
+    texts: &mut L,
 ) -> Result<(), RunFault>
     requires reader { reader.old ≡ no_line }
-    requires none { texts.old.items ≡ [] }
-    ensures texts { OnOk result (AreTextsOf (R.left input.old) texts.new.items) }
+    requires none { L.texts texts.old ≡ [] }
+    ensures texts { OnOk result (AreTextsOf (R.left input.old) (L.texts texts.new)) }
     ensures fault { IfErr result (λ ended. ReadingFails (R.left input.old) (R.left input.new) ended) }
     ensures input { IfErr result (λ ended. ended.input ≡ 0) }
     ensures writes { IfErr result (λ ended. WritesNone ended) }
@@ -105,22 +144,22 @@ fn read_lines<R: Source>(
                 }
             }
             Ok(false) => return Ok(()),
-            Err(stop) => return Err(stop_fault(next_number(texts.as_slice()), stop)),
+            Err(stop) => return Err(stop_fault(next_number(texts.count()), stop)),
         }
     }
 }
 
 // Puts the text of a line behind those of the lines before it.
-fn take_line(alloc: Global, line: &[u8], texts: &mut Vec<TextBuf>) -> Result<(), RunFault>
+fn take_line<L: TakesTexts>(alloc: Global, line: &[u8], texts: &mut L) -> Result<(), RunFault>
     requires short { length line.now ≤ most_line_bytes }
-    requires few { length texts.old.items ≤ most_lines }
-    ensures ok { OnOk result (TakesText texts.old.items line.now texts.new.items) }
-    ensures room { OnOk result (length texts.new.items ≤ most_lines) }
-    ensures err { IfErr result (λ ended. FailsAs (ending_of ended) (line_word (length texts.old.items) line.now) ended) }
-    ensures number { IfErr result (λ ended. ended.line ≡ length texts.old.items + 1) }
+    requires few { length (L.texts texts.old) ≤ most_lines }
+    ensures ok { OnOk result (TakesText (L.texts texts.old) line.now (L.texts texts.new)) }
+    ensures room { OnOk result (length (L.texts texts.new) ≤ most_lines) }
+    ensures err { IfErr result (λ ended. FailsAs (ending_of ended) (line_word (length (L.texts texts.old)) line.now) ended) }
+    ensures number { IfErr result (λ ended. ended.line ≡ length (L.texts texts.old) + 1) }
     ensures input { IfErr result (λ ended. ended.input ≡ 0) }
 {
-    let number = next_number(texts.as_slice());
+    let number = next_number(texts.count());
     if number > MOST_LINES {
         return Err(fault_at(number, Fault::Lex(LexFault::TooManyLines)));
     }
@@ -131,13 +170,13 @@ fn take_line(alloc: Global, line: &[u8], texts: &mut Vec<TextBuf>) -> Result<(),
 }
 
 // Puts a text behind others, that of the line with this number, unless it is too long to have a key.
-fn put_text(
+fn put_text<L: TakesTexts>(
     alloc: Global,
     number: u32,
     text: &str,
-    texts: &mut Vec<TextBuf>,
+    texts: &mut L,
 ) -> Result<(), RunFault>
-    ensures ok { OnOk result (texts.new.items ≡ texts.old.items ++ chars text.now ∷ []) }
+    ensures ok { OnOk result (L.texts texts.new ≡ L.texts texts.old ++ chars text.now ∷ []) }
     ensures short { OnOk result (is_too_long (chars text.now) ≡ false) }
     ensures err { IfErr result (λ ended. FailsAs (ending_of ended) (unless_long number (chars text.now)) ended) }
     ensures number { IfErr result (λ ended. ended.line ≡ number) }
@@ -146,19 +185,22 @@ fn put_text(
     if is_too_long(text) {
         return Err(fault_at(number, Fault::Key(KeyFault::TextTooLong)));
     }
-    match TextBuf::copied(alloc, text) {
-        Ok(copy) => match texts.push(copy) {
-            Ok(()) => Ok(()),
-            Err(_) => Err(no_memory(number)),
-        },
+    match texts.put(alloc, text) {
+        Ok(()) => Ok(()),
         Err(_) => Err(no_memory(number)),
     }
 }
 
-// The number of the line behind those of these texts.
-fn next_number(texts: &[TextBuf]) -> u32
-    requires { length texts.now ≤ most_lines }
-    ensures { result ≡ length texts.now + 1 }
-{
-    texts.len() as u32 + 1
+impl TakesTexts for Vec<TextBuf> {
+    ghost texts = { λ texts. texts.items };
+
+    fn count(&self) -> usize {
+        self.len()
+    }
+
+    fn put(&mut self, alloc: Global, text: &str) -> Result<(), AllocError> {
+        let copy = TextBuf::copied(alloc, text)?;
+        self.push(copy)?;
+        Ok(())
+    }
 }

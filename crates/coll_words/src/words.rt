@@ -4,16 +4,12 @@ ghost use Rattle.std.specs.Prelude.{◌≡◌, slice_index_or, OnOk, OnErr};
 ghost use Rattle.coll_devices.specs.Devices.{Writes};
 ghost use Rattle.coll_nodes.specs.Table.{Collation};
 ghost use Rattle.coll_words.specs.KeyedWords.{AreKeyed, texts_of};
-ghost use Rattle.coll_key.specs.SortKey.{key_of};
 ghost use Rattle.coll_words.specs.LedWords.{lead_of};
 ghost use Rattle.coll_words.specs.PackedKeys.{packed_key};
 ghost use Rattle.coll_words.specs.SortRuns.{SortsWords};
 ghost use Rattle.coll_words.specs.Words.{written_word, written_words};
 
 use crate::packed_keys::packed_key;
-use crate::reading::{fault_at, no_memory};
-use crate::taking_words::TakesWords;
-use coll_bench::{Fault, RunFault};
 use coll_devices::{Sink, WriteStop};
 use coll_key::{KeyFault, Ranks, key};
 use coll_lex::TextBuf;
@@ -122,33 +118,6 @@ pub(crate) fn number_at(key: &[u32], place: usize) -> u32
     match key.get(place) {
         Some(number) => *number,
         None => 0,
-    }
-}
-
-impl TakesWords for Vec<Word> {
-    ghost words = { λ words. words.items };
-
-    ghost keys = { λ table text. packed_key (key_of table text) };
-
-    fn count(&self) -> usize {
-        self.len()
-    }
-
-    fn put(
-        &mut self,
-        alloc: Global,
-        table: &Table,
-        ranks: &Ranks,
-        number: u32,
-        text: &str,
-    ) -> Result<(), RunFault> {
-        match Word::new(alloc, table, ranks, text) {
-            Ok(word) => match self.push(word) {
-                Ok(()) => Ok(()),
-                Err(_) => Err(no_memory(number)),
-            },
-            Err(fault) => Err(fault_at(number, Fault::Key(fault))),
-        }
     }
 }
 

@@ -2,18 +2,18 @@
 use Rattle.std.proofs.Common.{◌≡◌, ◌-◌, ◌≤◌, None, length}
 use Rattle.coll_lex.specs.Limits.{most_lines}
 use Rattle.coll_nodes.specs.TableLayout.{collation}
-use Rattle.coll_words.specs.KeyedWords.{AreKeyedBy, texts_of}
+use Rattle.coll_words.specs.KeyedWords.{AreKeyed, texts_of}
 use Rattle.coll_words.proofs.TextWords.{OnWay}
 use Rattle.coll_words.proofs.reading.read_lines.Given as goal
 
 abbrev pub invariant-lines : goal.invariant-lines
 invariant-lines g l = record {
-  way : OnWay (g.R.Source.left l.initial.input) l.reader (g.R.Source.left l.input) (texts_of (g.L.TakesWords.words l.words));
-  keyed : AreKeyedBy (g.L.TakesWords.keys (collation l.table)) (g.L.TakesWords.words l.words);
-  few : length (g.L.TakesWords.words l.words) ≤ most_lines;
+  way : OnWay (g.R.Source.left l.initial.input) l.reader (g.R.Source.left l.input) (texts_of l.words.items);
+  keyed : AreKeyed (collation l.table) l.words.items;
+  few : length l.words.items ≤ most_lines;
   errors : g.R.Source.failed l.input ≡ g.R.Source.failed l.initial.input;
   goes_on : l.reader.stop ≡ None;
 }
 
 abbrev pub decreases-lines : goal.decreases-lines
-decreases-lines g l = most_lines - length (g.L.TakesWords.words l.words)
+decreases-lines g l = most_lines - length l.words.items

@@ -10,7 +10,7 @@ use Rattle.coll_words.proofs.sorting.write_sorted.Goals as goal
 pub returns-in-Ok-clause-run : goal.returns-in-Ok-clause-run
 returns-in-Ok-clause-run g c =
     let taken = g.W.Sink.taken in
-    writes (collation c.args.table.now) c.args.words.now (texts_of c.in-Ok.lent.items) (taken c.args.output.now) (taken c.write_all-wrote.new.output) c.write_all-wrote.result c.in-Ok.ensures
+    writes (collation c.args.table.now) (texts_of c.args.words.now) (texts_of c.in-Ok.lent.items) (taken c.args.output.now) (taken c.write_all-wrote.new.output) c.write_all-wrote.result c.in-Ok.ensures
     (subst (λ (sorted : List KeyedWord). Sends (taken c.args.output.now) (taken c.write_all-wrote.new.output) (written_words (texts_of sorted)) c.write_all-wrote.result)
     c.deref.ensures.value c.write_all-wrote.ensures.sent)
     c.write_all-wrote.ensures.fault

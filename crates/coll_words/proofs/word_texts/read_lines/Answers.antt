@@ -10,7 +10,7 @@ pub lines-init : goal.lines-init
 lines-init g c =
     let left = g.R.Source.left c.args.input.now in
     record {
-      way = subst (λ (r : ReaderState). OnWay left r left c.args.texts.now.items) (sym c.requires.reader)
+      way = subst (λ (r : ReaderState). OnWay left r left (g.L.TakesTexts.texts c.args.texts.now)) (sym c.requires.reader)
           (subst (λ (texts : List (List ℕ)). OnWay left no_line left texts) (sym c.requires.none) (sets_out left));
       few = omega (arith, ap length c.requires.none);
       errors = refl;
@@ -23,7 +23,7 @@ returns-in-Err-take_line-clause-fault g c =
     let failed = g.R.Source.failed in
     let gives = gives_line c.lines.reader c.advance.new.self (left c.lines.input) (left c.advance.new.input) (failed c.lines.input) (failed c.advance.new.input) c.in-Ok-true.field-0
     c.in-Ok-true.field-0-test c.in-Ok-true.ensures in
-    text_refused c.lines.texts.items (left c.args.input.now) c.lines.reader c.advance.new.self (left c.lines.input) (left c.advance.new.input) (failed c.lines.input)
+    text_refused (g.L.TakesTexts.texts c.lines.texts) (left c.args.input.now) c.lines.reader c.advance.new.self (left c.lines.input) (left c.advance.new.input) (failed c.lines.input)
     (failed c.advance.new.input) c.lines.invariant.way c.line.result.now c.in-Err-take_line.ended gives c.line.ensures c.in-Err-take_line.ensures.err c.in-Err-take_line.ensures.number
 
 pub returns-in-Ok-false-clause-texts : goal.returns-in-Ok-false-clause-texts
@@ -32,7 +32,7 @@ returns-in-Ok-false-clause-texts g c =
     let failed = g.R.Source.failed in
     let none = gives_none c.lines.reader c.advance.new.self (left c.lines.input) (left c.advance.new.input) (failed c.lines.input) (failed c.advance.new.input) c.in-Ok-false.field-0
     c.in-Ok-false.field-0-test c.in-Ok-false.ensures in
-    all_read (left c.args.input.now) c.lines.reader (left c.lines.input) c.lines.texts.items c.lines.invariant.way c.advance.new.self (left c.advance.new.input) (failed c.lines.input)
+    all_read (left c.args.input.now) c.lines.reader (left c.lines.input) (g.L.TakesTexts.texts c.lines.texts) c.lines.invariant.way c.advance.new.self (left c.advance.new.input) (failed c.lines.input)
     (failed c.advance.new.input) none
 
 pub returns-in-Err-clause-fault : goal.returns-in-Err-clause-fault
@@ -40,9 +40,9 @@ returns-in-Err-clause-fault g c =
     let left = g.R.Source.left in
     let failed = g.R.Source.failed in
     rw c.stop_fault.ensures
-    (text_stopped c.lines.texts.items (left c.args.input.now) c.lines.reader c.advance.new.self (left c.lines.input) (left c.advance.new.input) (failed c.lines.input)
+    (text_stopped (g.L.TakesTexts.texts c.lines.texts) (left c.args.input.now) c.lines.reader c.advance.new.self (left c.lines.input) (left c.advance.new.input) (failed c.lines.input)
     (failed c.advance.new.input) c.lines.invariant.way c.next_number.result c.in-Err.stop
-    (c.next_number.ensures ∙ ap (λ (texts : List (List ℕ)). length texts + 1) c.as_slice.ensures.value) c.lines.invariant.goes_on c.in-Err.ensures)
+    (c.next_number.ensures ∙ ap (λ (n : ℕ). n + 1) c.count.ensures) c.lines.invariant.goes_on c.in-Err.ensures)
 
 pub lines-preserved : goal.lines-preserved
 lines-preserved g c =
@@ -51,7 +51,7 @@ lines-preserved g c =
     let gives = gives_line c.lines.reader c.advance.new.self (left c.lines.input) (left c.advance.new.input) (failed c.lines.input) (failed c.advance.new.input) c.in-Ok-true.field-0
     c.in-Ok-true.field-0-test c.in-Ok-true.ensures in
     record {
-      way = text_on c.lines.texts.items c.take_line.new.texts.items c.line.result.now c.in_default.ensures.ok (left c.args.input.now) c.lines.reader c.advance.new.self (left c.lines.input)
+      way = text_on (g.L.TakesTexts.texts c.lines.texts) (g.L.TakesTexts.texts c.take_line.new.texts) c.line.result.now c.in_default.ensures.ok (left c.args.input.now) c.lines.reader c.advance.new.self (left c.lines.input)
           (left c.advance.new.input) (failed c.lines.input) (failed c.advance.new.input) c.lines.invariant.way gives c.line.ensures;
       few = c.in_default.ensures.room;
       errors = gives.count ∙ c.lines.invariant.errors;
@@ -60,5 +60,5 @@ lines-preserved g c =
 
 pub lines-smaller : goal.lines-smaller
 lines-smaller g c =
-    let longer = text_longer c.lines.texts.items c.take_line.new.texts.items c.line.result.now c.in_default.ensures.ok in
+    let longer = text_longer (g.L.TakesTexts.texts c.lines.texts) (g.L.TakesTexts.texts c.take_line.new.texts) c.line.result.now c.in_default.ensures.ok in
     omega (arith, longer, c.in_default.ensures.room)

@@ -6,11 +6,11 @@ use Rattle.coll_words.proofs.word_texts.read_lines.Given as goal
 
 abbrev pub invariant-lines : goal.invariant-lines
 invariant-lines g l = record {
-  way : OnWay (g.R.Source.left l.initial.input) l.reader (g.R.Source.left l.input) l.texts.items;
-  few : length l.texts.items ≤ most_lines;
+  way : OnWay (g.R.Source.left l.initial.input) l.reader (g.R.Source.left l.input) (g.L.TakesTexts.texts l.texts);
+  few : length (g.L.TakesTexts.texts l.texts) ≤ most_lines;
   errors : g.R.Source.failed l.input ≡ g.R.Source.failed l.initial.input;
   goes_on : l.reader.stop ≡ None;
 }
 
 abbrev pub decreases-lines : goal.decreases-lines
-decreases-lines g l = most_lines - length l.texts.items
+decreases-lines g l = most_lines - length (g.L.TakesTexts.texts l.texts)

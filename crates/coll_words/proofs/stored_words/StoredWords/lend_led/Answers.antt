@@ -2,4 +2,4 @@
 use Rattle.coll_words.proofs.stored_words.StoredWords.lend_led.Goals as goal
 
 pub led_at-requires : goal.led_at-requires
-led_at-requires c = rw (c.deref-2.ensures.value, c.deref-3.ensures.value, c.deref-4.ensures.value) c.self.invariant
+led_at-requires c = rw (c.deref-2.ensures.value, c.deref-3.ensures.value) c.self.invariant

@@ -1,0 +1,61 @@
+-- What characters weigh in a table, kept for the keys of words.
+use Rattle.std.specs.Prelude.{◌≡◌, ◌<◌, ℕ, List, [], ◌∷◌, All, length, chars, true, false, string_bytes}
+use Rattle.coll_syntax.specs.declared.identifiers.Id.TheVariants.{Char}
+use Rattle.coll_nodes.specs.NodeNumbers.{AreNumbersOf}
+use Rattle.coll_nodes.specs.Table.{Collation}
+use Rattle.coll_nodes.specs.TableLayout.{TableValue, collation}
+use Rattle.coll_elements.specs.Elements.{elements_of}
+use Rattle.coll_ranks.specs.LevelWeights.{level_numbers}
+use Rattle.coll_ranks.specs.RankLists.{WeightsValue}
+use Rattle.coll_ranks.specs.LevelWeights.{row_numbers}
+use Rattle.coll_ranks.specs.WeightNumbers.{numbers_at}
+use Rattle.coll_ranks.specs.declared.level_weights.LevelWeights.{LevelWeights}
+use Rattle.coll_ranks.specs.declared.text_elements.ElementRow.{ElementRow}
+use Rattle.coll_key.specs.KeyLimits.{is_too_long}
+use Rattle.coll_words.specs.ElementMarks.{AreAllApart, AreAlone, StandsAlone}
+use Rattle.coll_words.specs.FirstKeys.{begins_plainly}
+use Rattle.coll_words.specs.LetterWeights.{AreLetterWeights, IsRowOf}
+use Rattle.coll_words.specs.PackedKeys.{packed_key}
+use Rattle.coll_words.specs.declared.element_marks.ElementMarks.{ElementMarks}
+use Rattle.coll_words.specs.declared.letter_keys.FirstKept.{FirstKept}
+use Rattle.coll_words.specs.declared.letter_keys.LetterKey.{LetterKey}
+use Rattle.coll_words.specs.declared.letter_keys.LetterKeys.{LetterKeys}
+use Rattle.coll_words.specs.declared.text_letters.TextLetters.{TextLetters}
+
+-- a character stands alone whatever follows it, and this is all that it weighs at the first level, packed
+pub record IsPlainNumber (table : Collation) (c number : ℕ) : Type 0 where
+  pub alone : (rest : List ℕ) → StandsAlone table c rest
+  pub packed : packed_key (numbers_at table 0 (Char c)) ≡ number ∷ []
+
+-- a character is kept with what it weighs
+pub record IsLetterKey (table : Collation) (weights : WeightsValue) (kept : LetterKey) : Type 0 where
+  pub plain : 0 < kept.number → IsPlainNumber table kept.letter kept.number
+  pub row : IsRowOf table weights kept.letter kept.row
+
+-- these are the weights of the first level, which the table has
+pub record HasLevel (table : Collation) (weights : WeightsValue) (first : LevelWeights) : Type 0 where
+  pub level : 0 < length table.rules
+  pub numbers : (row : ElementRow) → level_numbers first row ≡ row_numbers weights 0 row
+
+-- a text begins with a character that is kept, and goes on with the rest
+pub record BeginsWithKept (table : Collation) (weights : WeightsValue) (text : List ℕ) (first : FirstKept) : Type 0 where
+  pub elements : elements_of table text ≡ Char first.kept.letter ∷ elements_of table (chars first.rest.now)
+  pub kept : IsLetterKey table weights first.kept
+  pub shorter : length (chars first.rest.now) < length text
+
+-- what is kept serves a table as that stands
+pub record AreLetterKeys (table : TableValue) (keys : LetterKeys) : Type 0 where
+  pub letters : All (IsLetterKey (collation table) keys.weights.made.weights) keys.letters.items
+  pub weights : AreLetterWeights (collation table) keys.weights
+  pub numbers : AreNumbersOf keys.numbers table.layout
+  pub plain : begins_plainly (collation table).rules ≡ true
+
+-- by the marks the characters, one behind another, hold no element, and they are few
+pub record AreApartIn (marks : ElementMarks) (letters : TextLetters) : Type 0 where
+  pub apart : AreAllApart marks (chars (string_bytes letters.text))
+  pub few : is_too_long (chars (string_bytes letters.text)) ≡ false
+
+-- the characters, one behind another, hold no element of a table, and they are few
+pub record ServeTexts (table : Collation) (letters : TextLetters) : Type 0 where
+  pub alone : AreAlone table (chars (string_bytes letters.text))
+  pub few : is_too_long (chars (string_bytes letters.text)) ≡ false
