@@ -1,7 +1,8 @@
 #!/usr/bin/env python3
 """The merge gate: whether each edit of crates/*/more-edits/ can still be applied, `rt ci`, and then the runs of the programs that it
-built, withdrawals from random histories, explanations of pairs, reviews of random delta files and edits at a terminal among them, and whether the
-version that is told is that of the changelog and of the kit. What the prover says of those edits, `make edits` tells.
+built, withdrawals from random histories, explanations of pairs, reviews of random delta files, imports of random ranges and edits
+at a terminal among them, and whether the version that is told is that of the changelog and of the kit. What the prover says of
+those edits, `make edits` tells.
 
 usage: checkers/gate.py
 
@@ -15,6 +16,7 @@ import sys
 import edit_terminal
 import edits
 import explained_pairs
+import random_ranges
 import random_reviews
 import random_withdrawals
 import refuse_growths
@@ -77,13 +79,16 @@ def main():
     print(f"explanations of pairs of words: {explained[0]} passed, {explained[1]} failed")
     reviewed = random_reviews.run_all(run_program.PROGRAM)
     print(f"reviews of random delta files: {reviewed[0]} passed, {reviewed[1]} failed")
+    spelled = random_ranges.run_all(run_program.PROGRAM)
+    print(f"imports of random ranges: {spelled[0]} passed, {spelled[1]} failed")
     edited = edit_terminal.run_all(run_program.PROGRAM)
     print(f"edits at a terminal: {edited[0]} passed, {edited[1]} failed")
     refused = refuse_growths.run_all()
     print(f"runs with refused growths: {refused[0]} passed, {refused[1]} failed")
     told = version()
     print(f"version: {told[0]} passed, {told[1]} failed")
-    passed, failed = (sum(counts) for counts in zip(can_be_applied, proved, ran, withdrawn, explained, reviewed, edited, refused, told))
+    parts = (can_be_applied, proved, ran, withdrawn, explained, reviewed, spelled, edited, refused, told)
+    passed, failed = (sum(counts) for counts in zip(*parts))
     print(f"{passed} passed, {failed} failed")
     return 1 if failed or not ran[0] else 0
 
