@@ -3,7 +3,7 @@
 //! A weight is mostly one name or the character itself, and for a few lines a string of names; each is read from the text, and only what
 //! is kept of it is made. What an operand means is that of `weight_lists`; of a table's line of a character that of `kept_weights`.
 
-ghost use Rattle.std.specs.Prelude.{◌≡◌, ◌<◌, [], ◌∷◌, length, chars, Ok, IfOk, IfSome};
+ghost use Rattle.std.specs.Prelude.{◌≡◌, ◌<◌, ◌≤◌, [], ◌∷◌, length, chars, Ok, IfOk, IfSome};
 ghost use Rattle.coll_lex.specs.PlainStrings.{piece_in};
 ghost use Rattle.coll_lex.specs.PlainTexts.{IsReadWhole, plain_reading, token_in};
 ghost use Rattle.coll_syntax.specs.PlainWeights.{IsInside, PutsOperand, is_own_char, operand_by, weights_by};
@@ -85,14 +85,13 @@ fn plain_string<'a>(
 ) -> Result<Option<(Weight, &'a str)>, AllocError>
     ensures { IfOk result (λ read. IfSome read (λ next. IsInside lexer.now.special inside.now next.0 next.1.now)) }
 {
-    let mut ids = Vec::new(alloc);
+    let mut ids = Vec::with_capacity(alloc, piece_count(lexer, inside))?;
     let mut rest = inside;
     'pieces: loop {
         if let Some(behind) = lexer.past_string(rest) {
             if ids.is_empty() {
                 return Ok(None);
             }
-            ids.shrink_to_fit();
             return Ok(Some((Weight::Names(ListBuf::new(ids)), behind)));
         }
         let Some((piece, later)) = lexer.plain_piece(rest) else {
@@ -105,6 +104,20 @@ fn plain_string<'a>(
         ids.push(id)?;
         rest = later;
     }
+}
+
+// How many pieces the inside of a string begins with that are read where they stand: no more than a weight may have.
+fn piece_count(lexer: &Lexer, inside: &str) -> usize
+    ensures { result ≤ 32 }
+{
+    let mut rest = inside;
+    for count in 0..MOST_WEIGHT_IDS {
+        let Some((_, later)) = lexer.plain_piece(rest) else {
+            return count;
+        };
+        rest = later;
+    }
+    MOST_WEIGHT_IDS
 }
 
 // The character or the name of a piece of a string. A name is a copy.
