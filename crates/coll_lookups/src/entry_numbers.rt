@@ -4,13 +4,13 @@
 //! the entries and gives each its number; it is kept beside a table. Where one entry goes to another place, the numbers of all
 //! between change by one, and none of them is written: the move is kept, and a number is told behind the moves that came after it
 //! was given. So a change of a few entries costs no pass over all. Only so many moves are kept; behind these all numbers are to be
-//! given anew: those of nodes that stand are written over, and memory is taken only for nodes that it has no room for yet
-//! (`specs/EntryNumbers.antt`). How numbers are kept may change.
+//! given anew: those of nodes that stand are written over, those of others are none from then on, with no write to them, and memory
+//! is taken only for nodes that it has no room for yet (`specs/EntryNumbers.antt`). How numbers are kept may change.
 
-ghost use Rattle.std.specs.Prelude.{◌≡◌, ◌<◌, ◌≤◌, [], ℕ, true, false, if◌then◌else◌, slice_index_or, vec_len, OnOk};
+ghost use Rattle.std.specs.Prelude.{◌≡◌, ◌<◌, ◌≤◌, ◌+◌, [], ℕ, length, true, false, if◌then◌else◌, slice_index_or, vec_len, OnOk};
 ghost use Rattle.coll_order.specs.Lists.{same_node};
 ghost use Rattle.coll_order.specs.declared.places.NodeId.{NodeId};
-ghost use Rattle.coll_lookups.specs.EntryNumbers.{behind_moves, blank, lowered, moved, number_at, raised};
+ghost use Rattle.coll_lookups.specs.EntryNumbers.{behind_moves, blank, lowered, moved, number_at, number_of, raised};
 
 use arrayvec::ArrayVec;
 use coll_order::NodeId;
@@ -23,7 +23,7 @@ const PLACES_AT_ONCE: usize = 64;
 // How many moves are kept: telling a number goes by them, and giving all anew costs as much as telling some ten thousand.
 const MOST_MOVES: usize = 128;
 
-// A number as it was given, and how many of the moves that are kept it had had then.
+// A number as it was given, and how many moves there had been by then since ever.
 #[derive(Clone, Copy)]
 struct Slot {
     number: u32,
@@ -42,17 +42,19 @@ struct Move {
 pub struct EntryNumbers {
     slots: Vec<Slot>,
     moves: ArrayVec<Move, MOST_MOVES>,
+    // How many moves there were before those that are kept. A slot that was written before as many is stale.
+    before: u32,
 }
 
 impl Model for EntryNumbers {
     ghost use Rattle.std.specs.Prelude.{List, ℕ};
-    ghost use Rattle.coll_lookups.specs.EntryNumbers.{HaveHadOnly, numbers_of};
+    ghost use Rattle.coll_lookups.specs.EntryNumbers.{AreCounted, numbers_of};
 
     ghost Value = { List ℕ };
 
-    ghost view = { λ n. numbers_of n.moves.items n.slots.items };
+    ghost view = { λ n. numbers_of n.before n.moves.items n.slots.items };
 
-    ghost invariant = { λ n. HaveHadOnly n.moves.items n.slots.items };
+    ghost invariant = { λ n. AreCounted n.before n.moves.items n.slots.items };
 }
 
 impl EntryNumbers {
@@ -63,6 +65,7 @@ impl EntryNumbers {
         EntryNumbers {
             slots: Vec::new(alloc),
             moves: ArrayVec::new(),
+            before: 0,
         }
     }
 
@@ -72,7 +75,7 @@ impl EntryNumbers {
         ensures { result ≡ number_at self.now node }
     {
         match self.slots.get(node.number()) {
-            Some(slot) => number_behind(&self.moves.as_slice()[slot.had as usize..], slot.number),
+            Some(slot) => number_in(self.moves.as_slice(), self.before, *slot),
             None => 0,
         }
     }
@@ -85,7 +88,7 @@ impl EntryNumbers {
             → number_at self.new other ≡ (if same_node other node then number else number_at self.old other)) }
     {
         let place = node.number();
-        let had = self.moves.len() as u32;
+        let had = self.before + self.moves.len() as u32;
         make_room(&mut self.slots, place, had)?;
         self.slots[place] = Slot { number, had };
         Ok(())
@@ -93,7 +96,8 @@ impl EntryNumbers {
 
     /// Has the numbers follow an entry that leaves one place and then takes another: each number above the first is one less, then
     /// each from the second on is one more, and the entry's node has the second. A place behind all that are told is left, or
-    /// taken, by nobody. It takes no memory, and answers `false`, and changes nothing, where there is no room for one move more.
+    /// taken, by nobody. It takes no memory, and answers `false`, and changes nothing, where there is no room for one move more, or
+    /// where there were as many since ever as can be counted.
     pub fn follow(&mut self, node: NodeId, from: u32, to: u32) -> bool
         requires { 1 ≤ to }
         ensures followed { result ≡ true → (other : NodeId)
@@ -104,11 +108,11 @@ impl EntryNumbers {
         if place >= self.slots.len() || self.moves.is_full() {
             return false;
         }
-        self.moves.push(Move { from, to });
-        self.slots[place] = Slot {
-            number: to,
-            had: self.moves.len() as u32,
+        let Some(had) = self.before.checked_add(self.moves.len() as u32 + 1) else {
+            return false;
         };
+        self.moves.push(Move { from, to });
+        self.slots[place] = Slot { number: to, had };
         true
     }
 
@@ -117,15 +121,28 @@ impl EntryNumbers {
         self.moves.len()
     }
 
-    /// Makes room for moves, before all numbers are given anew: nothing is known of them until then. It takes no memory, and lets
-    /// none go.
-    pub fn begin_anew(&mut self) {
-        if self.moves.is_empty() {
-            return;
-        }
-        self.moves.clear();
-        self.slots.clear();
+    /// Whether so many moves more can be kept: it is seen in time alone, and no clause says it.
+    pub fn has_room(&self, further: usize) -> bool {
+        further <= MOST_MOVES.saturating_sub(self.moves.len())
     }
+
+    /// Makes room for moves, before all numbers are given anew: nothing is known of them until then. It writes no number, takes no
+    /// memory, and lets none go.
+    pub fn begin_anew(&mut self) {
+        self.before += self.moves.len() as u32;
+        self.moves.clear();
+    }
+}
+
+// The number of a slot, where so many moves were before those that are kept.
+fn number_in(moves: &[Move], before: u32, slot: Slot) -> u32
+    requires { slot.had ≤ before + length moves.now }
+    ensures { result ≡ number_of before moves.now slot }
+{
+    if slot.had < before {
+        return 0;
+    }
+    number_behind(&moves[(slot.had - before) as usize..], slot.number)
 }
 
 // A number behind some moves.
