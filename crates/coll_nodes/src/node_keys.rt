@@ -4,9 +4,12 @@
 //! came in stays for good, so that its node can be found again, or not any more, without memory. A new kind of key is a look-up
 //! more, and a case here.
 
-ghost use Rattle.std.specs.Prelude.{◌≡◌, true, false, Some, IfOk, OnOk, OnErr};
+ghost use Rattle.std.specs.Prelude.{◌≡◌, true, false, not, is_some, Some, IfOk, OnOk, OnErr};
 ghost use Rattle.coll_nodes.specs.KeyedNodes.{leads_nowhere, no_keys, HasKeysOf, HasKeyOfSection, KeepsKeys, LeadsAlike, SetsKeys, SetsSection};
-ghost use Rattle.coll_lookups.specs.NodeLookUps.{AddsNameKey, SetsName};
+ghost use Rattle.coll_nodes.specs.Moving.{MayBeLoose};
+ghost use Rattle.coll_nodes.specs.declared.contents.Content.TheVariants as content;
+ghost use Rattle.coll_nodes.specs.declared.declarations.Declaration.TheVariants as declaration;
+ghost use Rattle.coll_lookups.specs.NodeLookUps.{node_named, AddsNameKey, SetsName};
 
 use crate::Declaration;
 use crate::contents::Content;
@@ -89,36 +92,11 @@ impl NodeKeys {
         }
     }
 
-    /// Makes keys of what a node is found by, and lets them lead to a node, or to none. Where memory is refused, each key leads to
-    /// where it led, and some may have come in.
-    pub(crate) fn put(&mut self, content: &Content, node: Option<NodeId>) -> Result<(), AllocError>
-        ensures ok { OnOk result (SetsKeys self.old self.new content.now node) }
-        ensures keys { OnOk result (HasKeysOf self.new content.now) }
-        ensures keeps { KeepsKeys self.old self.new }
-        ensures err { OnErr result (LeadsAlike self.old self.new) }
-    {
-        match content {
-            Content::Declared(Declaration::Symbol(name)) => self.put_name(name, node),
-            Content::Declared(Declaration::Element { name, text }) => {
-                self.texts.reserve(text)?;
-                self.put_name(name, node)?;
-                self.texts.set(text, node);
-                Ok(())
-            }
-            Content::Declared(Declaration::Equivalence { name, .. }) => self.put_name(name, node),
-            Content::Begun { name, .. } => {
-                self.reserve_section(name)?;
-                self.set_section(name, node);
-                Ok(())
-            }
-            Content::Placed(entry) => self.placed.put(&entry.id, node),
-        }
-    }
-
     /// Makes keys of what a node is found by, and lets them lead to it, unless one of them leads to a node: then each leads to where
     /// it led, and so it is where memory is refused. Answers whether none of them led to a node. A key that is alone is asked for
     /// and put in by one look-up.
     pub(crate) fn put_free(&mut self, content: &Content, node: NodeId) -> Result<bool, AllocError>
+        requires may { MayBeLoose content.now }
         ensures free { IfOk result (λ free. free ≡ leads_nowhere self.old content.now) }
         ensures ok { IfOk result (λ free. free ≡ true → SetsKeys self.old self.new content.now (Some node)) }
         ensures keys { IfOk result (λ free. free ≡ true → HasKeysOf self.new content.now) }
@@ -128,48 +106,52 @@ impl NodeKeys {
     {
         match content {
             Content::Declared(Declaration::Symbol(name)) => self.names.put_free(name, node),
+            Content::Declared(Declaration::Element { name, text }) => {
+                self.put_element(name, text, node)
+            }
+            Content::Declared(Declaration::Equivalence { name, .. }) => self.put_name(name, node),
+            Content::Begun { .. } => unreachable!(),
             Content::Placed(entry) => self.placed.put_free(&entry.id, node),
-            _ => self.put_asked(content, node),
         }
     }
 
-    // The same, where it is asked first.
-    fn put_asked(&mut self, content: &Content, node: NodeId) -> Result<bool, AllocError>
-        ensures free { IfOk result (λ free. free ≡ leads_nowhere self.old content.now) }
-        ensures ok { IfOk result (λ free. free ≡ true → SetsKeys self.old self.new content.now (Some node)) }
-        ensures keys { IfOk result (λ free. free ≡ true → HasKeysOf self.new content.now) }
+    // The same, of an element. It is asked first whether its name and its string are free.
+    fn put_element(
+        &mut self,
+        name: &TextBuf,
+        text: &TextBuf,
+        node: NodeId,
+    ) -> Result<bool, AllocError>
+        ensures free { IfOk result (λ free. free ≡ leads_nowhere self.old (content.Declared (declaration.Element name.now text.now))) }
+        ensures ok { IfOk result (λ free. free ≡ true → SetsKeys self.old self.new (content.Declared (declaration.Element name.now text.now)) (Some node)) }
+        ensures keys { IfOk result (λ free. free ≡ true → HasKeysOf self.new (content.Declared (declaration.Element name.now text.now))) }
         ensures keeps { KeepsKeys self.old self.new }
         ensures taken { IfOk result (λ free. free ≡ false → LeadsAlike self.old self.new) }
         ensures err { OnErr result (LeadsAlike self.old self.new) }
     {
-        if !self.leads_nowhere(content) {
+        if self.names.find(name).is_some() || self.texts.find(text).is_some() {
             return Ok(false);
         }
-        self.put(content, Some(node))?;
+        self.texts.reserve(text)?;
+        self.names.put(name, Some(node))?;
+        self.texts.set(text, Some(node));
         Ok(true)
     }
 
-    // Whether nothing that a node is found by leads to a node.
-    fn leads_nowhere(&self, content: &Content) -> bool
-        ensures { result ≡ leads_nowhere self.now content.now }
+    // Makes a name a key that leads to a node, unless it leads to one, which is asked first. Answers whether it led to none.
+    fn put_name(&mut self, name: &TextBuf, node: NodeId) -> Result<bool, AllocError>
+        ensures free { IfOk result (λ free. free ≡ not (is_some (node_named self.old.names name.now))) }
+        ensures ok { IfOk result (λ free. free ≡ true → SetsName self.old.names self.new.names name.now (Some node)) }
+        ensures keys { IfOk result (λ free. free ≡ true → AddsNameKey self.old.names self.new.names name.now) }
+        ensures others { self.new ≡ record self.old { names = self.new.names } }
+        ensures taken { IfOk result (λ free. free ≡ false → self.new ≡ self.old) }
+        ensures err { OnErr result (self.new ≡ self.old) }
     {
-        match content {
-            Content::Declared(Declaration::Symbol(name)) => self.names.find(name).is_none(),
-            Content::Declared(Declaration::Element { name, text }) => {
-                if self.names.find(name).is_some() {
-                    return false;
-                }
-                self.texts.find(text).is_none()
-            }
-            Content::Declared(Declaration::Equivalence { name, .. }) => {
-                self.names.find(name).is_none()
-            }
-            Content::Begun { name, .. } => match name {
-                Some(name) => self.sections.find(name).is_none(),
-                None => true,
-            },
-            Content::Placed(entry) => self.placed.find(&entry.id).is_none(),
+        if self.names.find(name).is_none() {
+            self.names.put(name, Some(node))?;
+            return Ok(true);
         }
+        Ok(false)
     }
 
     /// Makes what a node is found by lead to a node, or to none. It takes no memory.
@@ -188,17 +170,6 @@ impl NodeKeys {
             Content::Begun { name, .. } => self.set_section(name, node),
             Content::Placed(entry) => self.placed.set(&entry.id, node),
         }
-    }
-
-    // Makes the name of a declaration a key, and lead to a node, or to none.
-    fn put_name(&mut self, name: &TextBuf, node: Option<NodeId>) -> Result<(), AllocError>
-        ensures ok { OnOk result (SetsName self.old.names self.new.names name.now node) }
-        ensures keys { OnOk result (AddsNameKey self.old.names self.new.names name.now) }
-        ensures others { self.new ≡ record self.old { names = self.new.names } }
-        ensures err { OnErr result (self.new ≡ self.old) }
-    {
-        self.names.put(name, node)?;
-        Ok(())
     }
 
     // Makes the name of a section lead to a node, or to none, if it has one.
