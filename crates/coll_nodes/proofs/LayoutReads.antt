@@ -109,7 +109,7 @@ module _ (layout : TableLayout) where
   in_rings index node there = is_in_ring layout.rings index node there
 
   -- nothing is read of a node that has none
-  nothing_read : {Key : Type 0} (p : Key → Bool) (keys : Content → List Key) (node : NodeId) (node_content : Content) {X : Type 0} → content_of layout node ≡ Some node_content → keys node_content ≡ []
+  pub nothing_read : {Key : Type 0} (p : Key → Bool) (keys : Content → List Key) (node : NodeId) (node_content : Content) {X : Type 0} → content_of layout node ≡ Some node_content → keys node_content ≡ []
       → list_any p (read_at keys layout node) ≡ true → X
   nothing_read p keys node node_content is none there = not_both (sym (ap (list_any p) (read_known keys layout node node_content is ∙ none)) ∙ there) refl
 

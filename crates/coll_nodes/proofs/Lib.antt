@@ -1,5 +1,7 @@
 pub mod AddedNodes
 pub mod AlikeLayouts
+pub mod BesideEntries
+pub mod BesideNodes
 pub mod BodyReads
 pub mod BodySteps
 pub mod ChangedNodes

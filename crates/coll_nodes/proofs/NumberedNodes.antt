@@ -42,7 +42,7 @@ one_behind before None = refl
 one_behind before (Some n) = ap Some (let one : suc before + n ≡ before + suc n = omega arith in one)
 
 -- an identifier that isn't there has no place
-no_place : (entries : List Entry) (id : Id) → list_any (same_id id) (ids_of entries) ≡ false → place_among entries id ≡ None
+pub no_place : (entries : List Entry) (id : Id) → list_any (same_id id) (ids_of entries) ≡ false → place_among entries id ≡ None
 no_place [] id h = refl
 no_place (entry ∷ entries) id h =
     by_test (λ b. (b || list_any (same_id id) (ids_of entries)) ≡ false → cond b (Some 1) (option_map (λ place. suc place) (place_among entries id)) ≡ None) (same_id id entry.id)
@@ -51,7 +51,7 @@ no_place (entry ∷ entries) id h =
 
 module _ (layout : TableLayout) (shaped : IsShaped layout) where
   -- the nodes of a section's entries are those of its ring
-  nodes_known : (section : NodeId) (name : Option (List ℕ)) (ring : RingId) → content_of layout section ≡ Some (content.Begun name ring) → read_at (entry_nodes_in layout) layout section
+  pub nodes_known : (section : NodeId) (name : Option (List ℕ)) (ring : RingId) → content_of layout section ≡ Some (content.Begun name ring) → read_at (entry_nodes_in layout) layout section
       ≡ nodes_in layout ring
   nodes_known section name ring is = read_known (entry_nodes_in layout) layout section (content.Begun name ring) is
 
@@ -89,7 +89,7 @@ module _ (layout : TableLayout) (shaped : IsShaped layout) where
 
   module _ (once : AreOnce same_id ids_in layout) (id : Id) (node : NodeId) (has : has_key same_id ids_in layout id node ≡ true) where
     -- a node has the identifier of an entry where it is the entry's node
-    same_entry : (other : NodeId) (entry : Entry) → content_of layout other ≡ Some (content.Placed entry) → is_in layout.rings other ≡ true → same_node node other ≡ same_id id entry.id
+    pub same_entry : (other : NodeId) (entry : Entry) → content_of layout other ≡ Some (content.Placed entry) → is_in layout.rings other ≡ true → same_node node other ≡ same_id id entry.id
     same_entry other entry is linked =
         by_test (λ b. same_id id entry.id ≡ b → same_node node other ≡ b) (same_id id entry.id)
         (λ on same. let key : has_key same_id ids_in layout id other

@@ -31,7 +31,7 @@ cut_at (first ∷ nodes) node there =
     (first ∷ later.0, later.1, ap (λ ns. first ∷ ns) later.2, later.3)) refl
 
 -- from a node on, a list in which each stands once has it and what follows it
-from_here : (prefix rest : List NodeId) (node : NodeId) → AreDistinct (prefix ++ node ∷ rest) → from_node (prefix ++ node ∷ rest) node ≡ node ∷ rest
+pub from_here : (prefix rest : List NodeId) (node : NodeId) → AreDistinct (prefix ++ node ∷ rest) → from_node (prefix ++ node ∷ rest) node ≡ node ∷ rest
 from_here [] rest node d = ap (λ b. cond b (node ∷ rest) (from_node rest node)) (same_node_itself node)
 from_here (first ∷ prefix) rest node d =
     ap (λ b. cond b (first ∷ (prefix ++ node ∷ rest)) (from_node (prefix ++ node ∷ rest) node)) (other_node_turned first node (apart prefix d.0)) ∙ from_here prefix rest node d.1 where

@@ -1,3 +1,4 @@
+pub mod Beside
 pub mod Bodies
 pub mod BodyInvariant
 pub mod Causes
@@ -9,6 +10,7 @@ pub mod Limits
 pub mod Linking
 pub mod Moving
 pub mod NodeNumbers
+pub mod NodesBeside
 pub mod OwnNames
 pub mod Placement
 pub mod SoundBodies

@@ -2,5 +2,5 @@
 use Rattle.coll_nodes.proofs.NeighbourLemmas.{linked_first}
 use Rattle.coll_nodes.proofs.neighbours.first_node.Goals as goal
 
-pub returns : goal.returns
-returns c = linked_first c.args.nodes.now.layout c.args.ring c.first.result c.first.ensures
+pub returns-clause-linked : goal.returns-clause-linked
+returns-clause-linked c = linked_first c.args.nodes.now.layout c.args.ring c.first.result c.first.ensures
