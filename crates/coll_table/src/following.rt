@@ -4,7 +4,7 @@
 //! anew: each item leaves one place and takes another, and the numbers of all others between change by one, which
 //! `EntryNumbers` tells without a write to them. What is looked at are the items, and for each the number of the node before its
 //! place: no ring is walked. Where that isn't enough, the places are given up: a section moved, an entry is now the first of
-//! its section, or no more moves can be kept.
+//! its section, or no more moves can be kept. Where giving them anew takes less, nothing is looked at.
 
 ghost use Rattle.std.specs.Prelude.{◌≡◌, ◌≢◌, ◌<◌, ◌≤◌, ◌+◌, ◌-◌, ◌^◌, ℕ, List, Some, suc, min, true, if◌then◌else◌, IsSome, length};
 ghost use Rattle.coll_order.specs.Lists.{same_node};
@@ -24,23 +24,46 @@ use coll_order::{NodeId, Place};
 // A place behind all others, which nobody leaves or takes.
 const NOWHERE: u32 = u32::MAX;
 
+// For so many entries of the table one character may be looked up by way of one move that the places have followed: giving them
+// anew takes some four times as long.
+const ENTRIES_A_MOVE: usize = 8;
+
 impl Table {
     ghost use Rattle.coll_nodes.specs.NodeNumbers.{AreNumbersOf};
     ghost use Rattle.coll_table.specs.Record.{Fits, turn};
 
+    /// By way of how many moves places may be told that a look for so many characters asks for. Where there are more, giving the
+    /// places anew takes less: it is seen in time alone, and no clause says it.
+    pub fn most_moves(&self, characters: usize) -> usize {
+        self.len() / ENTRIES_A_MOVE / characters.max(1)
+    }
+
     /// Has the places of entries that were those of the table before a record was turned follow it, and answers whether they are then
-    /// those of the table as it stands. It takes no memory, and walks no ring.
-    pub fn follow(&self, kept: &Record, numbers: &mut EntryNumbers) -> bool
+    /// those of the table as it stands. It takes no memory, and walks no ring. It looks at nothing where places would be told by way of
+    /// more than so many moves, and where the items would go by more moves than there are entries; so it takes less than giving the
+    /// places anew.
+    pub fn follow(&self, kept: &Record, numbers: &mut EntryNumbers, most_moves: usize) -> bool
         requires fits { Fits self.now kept.now }
         requires numbers { AreNumbersOf numbers.old (turn self.now kept.now).layout }
         ensures { result ≡ true → AreNumbersOf numbers.new self.now.layout }
     {
+        let items = kept.items.get();
+        if !serves(numbers, items.len(), most_moves, self.len()) {
+            return false;
+        }
         self.lemma_well_formed();
         if kept.undone {
-            return follow_undone(&self.body, kept.items.get(), numbers);
+            return follow_undone(&self.body, items, numbers);
         }
-        follow_done(&self.body, kept.items.get(), numbers)
+        follow_done(&self.body, items, numbers)
     }
+}
+
+// Whether places that follow so many items then serve looks that may go by so many moves, and take less than giving those of so many
+// entries anew.
+fn serves(numbers: &EntryNumbers, items: usize, most_moves: usize, entries: usize) -> bool {
+    let moves = numbers.moves().saturating_add(items);
+    numbers.has_room(items) && moves <= most_moves && moves.saturating_mul(items) <= entries
 }
 
 // Has places follow items that were done, from the first to the last, as far as that goes.

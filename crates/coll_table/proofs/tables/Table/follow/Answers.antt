@@ -9,8 +9,8 @@ use Rattle.coll_table.proofs.tables.Table.follow.Goals as goal
 
 pub follow_undone-requires-clause-numbers : goal.follow_undone-requires-clause-numbers
 follow_undone-requires-clause-numbers c =
-    subst (λ (layout : TableLayout). AreNumbered c.args.numbers.now (entry_nodes (turned_on layout c.get.result.now)) 1000000) (sym (ap (λ (table : TableValue). table.layout) c.self.view_is))
-    (rw c.get.ensures (before_undone c.args.self.now c.args.kept.now c.args.numbers.now c.lemma_well_formed.ensures.table c.requires.fits c.requires.numbers c.if-kept.true))
+    subst (λ (layout : TableLayout). AreNumbered c.args.numbers.now (entry_nodes (turned_on layout c.get-items.result.now)) 1000000) (sym (ap (λ (table : TableValue). table.layout) c.self.view_is))
+    (rw c.get-items.ensures (before_undone c.args.self.now c.args.kept.now c.args.numbers.now c.lemma_well_formed.ensures.table c.requires.fits c.requires.numbers c.if-kept.true))
 
 pub returns-then-kept : goal.returns-then-kept
 returns-then-kept c = λ followed.
@@ -20,8 +20,8 @@ returns-then-kept c = λ followed.
 
 pub follow_done-requires-clause-numbers : goal.follow_done-requires-clause-numbers
 follow_done-requires-clause-numbers c =
-    subst (λ (layout : TableLayout). AreNumbered c.args.numbers.now (entry_nodes (turned_back layout c.get-2.result.now)) 1000000) (sym (ap (λ (table : TableValue). table.layout) c.self.view_is))
-    (rw c.get-2.ensures (before_done c.args.self.now c.args.kept.now c.args.numbers.now c.lemma_well_formed.ensures.table c.requires.fits c.requires.numbers c.if-kept.false))
+    subst (λ (layout : TableLayout). AreNumbered c.args.numbers.now (entry_nodes (turned_back layout c.get-items.result.now)) 1000000) (sym (ap (λ (table : TableValue). table.layout) c.self.view_is))
+    (rw c.get-items.ensures (before_done c.args.self.now c.args.kept.now c.args.numbers.now c.lemma_well_formed.ensures.table c.requires.fits c.requires.numbers c.if-kept.false))
 
 pub returns : goal.returns
 returns c = λ followed.
