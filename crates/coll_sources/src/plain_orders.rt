@@ -4,6 +4,10 @@
 //! mostly a comment behind them. Such a line is read from its text, each token lent from there, so that no list of tokens is made and
 //! nothing of the comment is looked at. What a line says is what `grammar` says of its tokens; any other line is left to it.
 
+ghost use Rattle.std.specs.Prelude.{◌≡◌, chars};
+ghost use Rattle.coll_lex.specs.Marked.{is_joined};
+ghost use Rattle.coll_lex.specs.PlainTexts.{plain_reading};
+
 use coll_lex::{Chars, Lexer, ListBuf, PlainToken, TextBuf};
 use coll_syntax::{Id, MOST_WEIGHT_IDS, OrderLine, Weight};
 use std::alloc::{AllocError, Global};
@@ -21,7 +25,7 @@ pub(crate) fn plain_order(
         return Ok(None);
     };
     let rest = past_blanks(lexer, behind);
-    if ends_here(lexer.chars(), rest) {
+    if lexer.is_over(rest) {
         return Ok(Some(OrderLine { id, weights: None }));
     }
     match plain_weights(alloc, lexer, rest)? {
@@ -46,9 +50,12 @@ fn plain_id(alloc: Global, token: PlainToken<'_>) -> Result<Option<Id>, AllocErr
 }
 
 // The text without the blanks that it begins with.
-fn past_blanks<'a>(lexer: &Lexer, text: &'a str) -> &'a str {
+fn past_blanks<'a>(lexer: &Lexer, text: &'a str) -> &'a str
+    ensures reads { plain_reading lexer.now.special result.now ≡ plain_reading lexer.now.special text.now }
+    ensures ends { is_joined lexer.now.special.escape (chars result.now) ≡ is_joined lexer.now.special.escape (chars text.now) }
+{
     let mut rest = text;
-    for _ in 0..text.len() {
+    'blanks: for _ in 0..text.len() {
         let behind = lexer.past_blank(rest);
         if behind.len() == rest.len() {
             return rest;
@@ -56,14 +63,6 @@ fn past_blanks<'a>(lexer: &Lexer, text: &'a str) -> &'a str {
         rest = behind;
     }
     rest
-}
-
-// Whether a line ends here, or a comment begins, where no blank stands.
-fn ends_here(special: Chars, rest: &str) -> bool {
-    match rest.chars().next() {
-        Some(c) => { c == special.comment && c != special.escape && !matches!(c, '<' | ';' | ',') }
-        None => true,
-    }
 }
 
 // The weights that a text spells up to its end or a comment, with semicolons between them.
@@ -80,7 +79,7 @@ fn plain_weights(
         };
         weights.push(weight)?;
         let behind = past_blanks(lexer, behind);
-        if ends_here(lexer.chars(), behind) {
+        if lexer.is_over(behind) {
             weights.shrink_to_fit();
             return Ok(Some(ListBuf::new(weights)));
         }

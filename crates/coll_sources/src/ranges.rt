@@ -2,9 +2,9 @@
 //!
 //! All names of a range are spelled in one room, and kept as short texts are, which take no memory.
 
-ghost use Rattle.std.specs.Prelude.{◌≡◌, ◌<◌, ◌≤◌, ◌-◌, ◌++◌, [], chars, string_bytes, IfOk, OnOk};
+ghost use Rattle.std.specs.Prelude.{◌≡◌, ◌==◌, ◌<◌, ◌≤◌, ◌+◌, ◌-◌, ◌/◌, ◌%◌, ◌^◌, ◌++◌, ℕ, List, [], Some, length, chars, string_bytes, IfOk, IfSome, IfNone, OnOk};
 ghost use Rattle.coll_lex.specs.Spelling.{hex_digit};
-ghost use Rattle.coll_sources.specs.NameRanges.{base_of, digits_in, range_name};
+ghost use Rattle.coll_sources.specs.NameRanges.{base_of, digits_in, range_name, HasDigits, HasNumber};
 
 use coll_lex::TextBuf;
 use std::alloc::{AllocError, Global};
@@ -22,7 +22,15 @@ pub(crate) enum Digits {
 }
 
 impl Digits {
-    ghost use Rattle.std.specs.Prelude.{◌/◌, ◌%◌};
+    // How many digits there are.
+    fn base(self) -> u32
+        ensures { result ≡ base_of self }
+    {
+        match self {
+            Digits::Decimal => 10,
+            Digits::Hexadecimal => 16,
+        }
+    }
 
     // What a number is without its last digit.
     fn without_last(self, number: u32) -> u32
@@ -77,25 +85,26 @@ impl NameRange {
     }
 
     /// How many names it has.
-    pub fn count(&self) -> usize {
+    pub fn count(&self) -> usize
+        ensures { result ≡ self.now.last - self.now.first + 1 }
+    {
         (self.last.saturating_sub(self.first) as usize).saturating_add(1)
     }
 
     /// Whether its digits are hexadecimal.
-    pub fn is_hexadecimal(&self) -> bool {
+    pub fn is_hexadecimal(&self) -> bool
+        ensures { result ≡ (base_of self.now.digits == 16) }
+    {
         matches!(self.digits, Digits::Hexadecimal)
     }
 
     /// The number of a name, if the range has it. It takes no memory.
-    pub fn number(&self, name: &str) -> Option<u32> {
-        let letters = self.letters.get().len();
-        if name.len() != letters.saturating_add(self.width) {
-            return None;
-        }
-        let (front, digits) = name.as_bytes().split_at_checked(letters)?;
-        if front != self.letters.get().as_bytes() {
-            return None;
-        }
+    pub fn number(&self, name: &str) -> Option<u32>
+        ensures name { IfSome result (λ number. range_name self.now number ≡ chars name.now) }
+        ensures within { IfSome result (λ number. (self.now.first ≤ number) × (number ≤ self.now.last)) }
+        ensures found { (number : ℕ) → HasNumber self.now number → range_name self.now number ≡ chars name.now → result ≡ Some number }
+    {
+        let digits = self.digits_behind(name)?;
         let number = upper_number(digits, self.digits)?;
         if number < self.first || self.last < number {
             return None;
@@ -103,50 +112,21 @@ impl NameRange {
         Some(number)
     }
 
-    /// Whether a name stands in this range and in another one, both of which have hexadecimal digits. It takes no memory.
-    pub fn meets(&self, other: &NameRange) -> bool {
-        if self.letters.get().len() <= other.letters.get().len() {
-            meets_longer(self, other)
-        } else {
-            meets_longer(other, self)
+    // The digits of a name, if it has the letters of the range, and as many digits behind them.
+    fn digits_behind<'a>(&self, name: &'a str) -> Option<&'a [u8]>
+        ensures some { IfSome result (λ digits. HasDigits self.now name.now digits.now) }
+        ensures none { IfNone result ((digits : List ℕ) → HasDigits self.now name.now digits → ⊥) }
+    {
+        let letters = self.letters.get().as_bytes();
+        let (front, digits) = name.as_bytes().split_at_checked(letters.len())?;
+        if digits.len() != self.width {
+            return None;
         }
+        if front != letters {
+            return None;
+        }
+        Some(digits)
     }
-}
-
-// Whether a name stands in two ranges of hexadecimal digits, where all names of the second have no fewer letters: these have to go on
-// with digits where the letters of the first end.
-fn meets_longer(short: &NameRange, long: &NameRange) -> bool {
-    let Some(more) = behind_letters(
-        long.letters.get().as_bytes(),
-        short.letters.get().as_bytes(),
-    ) else {
-        return false;
-    };
-    if short.width != more.len().saturating_add(long.width) {
-        return false;
-    }
-    let Some(high) = upper_number(more, Digits::Hexadecimal) else {
-        return false;
-    };
-    let high = shifted(high, long.width);
-    let (first, last) = (u64::from(short.first), u64::from(short.last));
-    high.saturating_add(u64::from(long.first)) <= last
-        && first <= high.saturating_add(u64::from(long.last))
-}
-
-// What follows these letters in a text, if it begins with them.
-fn behind_letters<'a>(text: &'a [u8], letters: &[u8]) -> Option<&'a [u8]> {
-    let (front, behind) = text.split_at_checked(letters.len())?;
-    if front == letters { Some(behind) } else { None }
-}
-
-// A number with so many hexadecimal digits behind it, each of them zero.
-fn shifted(number: u32, digits: usize) -> u64 {
-    let mut number = u64::from(number);
-    for _ in 0..digits.min(MOST_DIGITS) {
-        number = number.saturating_mul(16);
-    }
-    number
 }
 
 /// The range from one name to another; none where they have no common form, or the last stands before the first.
@@ -191,37 +171,52 @@ fn common_length(first: &str, last: &str) -> usize {
     length
 }
 
-// The number that digits spell; none where one is no digit.
+// The number that digits spell, in upper or lower case; none where one is no digit.
 fn number_of(digits: &[u8], spelled: Digits) -> Option<u32> {
     let mut number = 0u32;
     for digit in digits {
-        number = with_digit(number, *digit, spelled)?;
+        number = with_digit(number, digit.to_ascii_uppercase(), spelled)?;
     }
     Some(number)
 }
 
 // The number that digits spell as names of ranges are spelled, in upper case.
-fn upper_number(digits: &[u8], spelled: Digits) -> Option<u32> {
+fn upper_number(digits: &[u8], spelled: Digits) -> Option<u32>
+    ensures spells { IfSome result (λ number. digits_in (base_of spelled) (length digits.now) number ≡ digits.now) }
+    ensures found { (number : ℕ) → number < 2 ^ 32 → number < base_of spelled ^ length digits.now
+        → digits_in (base_of spelled) (length digits.now) number ≡ digits.now → result ≡ Some number }
+{
     let mut number = 0u32;
     for digit in digits {
-        if *digit >= b'a' {
-            return None;
-        }
         number = with_digit(number, *digit, spelled)?;
     }
     Some(number)
 }
 
-// A number with a digit more.
-fn with_digit(number: u32, digit: u8, spelled: Digits) -> Option<u32> {
-    let (base, value) = match (spelled, digit) {
-        (Digits::Decimal, b'0'..=b'9') => (10, digit - b'0'),
-        (Digits::Hexadecimal, b'0'..=b'9') => (16, digit - b'0'),
-        (Digits::Hexadecimal, b'A'..=b'F') => (16, digit - b'A' + 10),
-        (Digits::Hexadecimal, b'a'..=b'f') => (16, digit - b'a' + 10),
-        _ => return None,
-    };
-    number.checked_mul(base)?.checked_add(u32::from(value))
+// A number with a digit more, which is in upper case.
+fn with_digit(number: u32, digit: u8, spelled: Digits) -> Option<u32>
+    ensures spells { IfSome result (λ more. (more / base_of spelled ≡ number) × (hex_digit (more % base_of spelled) ≡ digit)) }
+    ensures found { (more : ℕ) → more < 2 ^ 32 → more / base_of spelled ≡ number → hex_digit (more % base_of spelled) ≡ digit
+        → result ≡ Some more }
+{
+    let value = digit_value(digit)?;
+    let base = spelled.base();
+    if value >= base {
+        return None;
+    }
+    number.checked_mul(base)?.checked_add(value)
+}
+
+// What a digit in upper case is worth.
+fn digit_value(digit: u8) -> Option<u32>
+    ensures some { IfSome result (λ value. (value < 16) × (hex_digit value ≡ digit)) }
+    ensures found { (value : ℕ) → value < 16 → hex_digit value ≡ digit → result ≡ Some value }
+{
+    match digit {
+        b'0'..=b'9' => Some(u32::from(digit - b'0')),
+        b'A'..=b'F' => Some(u32::from(digit - b'A' + 10)),
+        _ => None,
+    }
 }
 
 /// The name of a range that has this number, in new memory.
