@@ -8,8 +8,8 @@ it stands apart from those that are kept, and where there are fewer than 64 of t
 both imports have to print the same table, or tell the same fault, and have to tell the same of what was changed, but for the ranges
 themselves. Lines are told apart by the range that they were written for. Sources have ranges that follow each other, meet, lie within
 others, stand between their names without meeting them, or have names of one length in common; few of them and up to eighty; short names
-and long ones; names before, between and behind them; decimal numbers; and names in order lines and weights that are declared or not.
-They are the same in each run.
+and long ones; ends in upper and in lower case; names, elements and second names before, between and behind them; decimal numbers; and
+names in order lines and weights that are declared or not. They are the same in each run.
 
 The last line is 'N passed, M failed', where a run is one source.
 """
@@ -35,6 +35,12 @@ OF_RANGES = "SymbolRange"
 def spelled(prefix, width, number, decimal):
     """The name of a number of a range."""
     return f"{prefix}{number:0{width}{'d' if decimal else 'X'}}"
+
+
+def end(chance, prefix, width, number, decimal):
+    """The first or the last name of a range as a source may spell it: letters that both ends have stay, and the rest is a number."""
+    name = spelled(prefix, width, number, decimal)
+    return prefix + name[len(prefix) :].lower() if chance.random() < 0.2 else name
 
 
 def ranges(chance):
@@ -99,13 +105,15 @@ def source(chance):
         while chance.random() < 0.25 * alone:
             lines.append((f"collating-symbol <{names_near(chance, of)}>", None))
         dots = chance.choice(["...", "...."]) if decimal else ".."
-        ends = [spelled(prefix, width, number, decimal) for number in (first, last)]
-        written = [f"collating-symbol <{spelled(prefix, width, number, decimal)}>" for number in range(first, last + 1)]
+        ends = [end(chance, prefix, width, number, decimal) for number in (first, last)]
+        front = os.path.commonprefix(ends)
+        names = [front + spelled(prefix, width, number, decimal)[len(front) :] for number in range(first, last + 1)]
+        written = [f"collating-symbol <{name}>" for name in names]
         lines.append((f"collating-symbol <{ends[0]}>{dots}<{ends[1]}>", written))
         if chance.random() < 0.1 * alone:
             lines.append((f'collating-element <{names_near(chance, of)}> from "{chance.choice(["ch", "ll", "dz"])}"', None))
         if chance.random() < 0.1 * alone:
-            lines.append((f"collating-symbol <{names_near(chance, of)}> <{names_near(chance, of)}>", None))
+            lines.append((f"symbol-equivalence <{names_near(chance, of)}> <{names_near(chance, of)}>", None))
         if chance.random() < 0.02:
             lines.append(("collating-symbol", None))
     lines.append(("order_start <PART>;forward;forward", None))
