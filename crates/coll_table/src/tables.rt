@@ -45,6 +45,7 @@ impl Model for Table {
 
 impl Table {
     ghost use Rattle.coll_devices.specs.Devices.{Writes};
+    ghost use Rattle.coll_nodes.specs.Beside.{entry_before, entry_behind, last_entry, section_name};
     ghost use Rattle.coll_nodes.specs.ElementTexts.{element_entry};
     ghost use Rattle.coll_lookups.specs.NamePlaces.{place_named};
     ghost use Rattle.coll_nodes.specs.NodeNumbers.{AreNumbersOf};
@@ -168,22 +169,34 @@ impl Table {
     }
 
     /// The entry directly before that of an identifier, in all sections joined, if both are there. It takes no memory.
-    pub fn entry_before(&self, id: &Id) -> Option<&Entry> {
+    #[tactic(auto, unfolding(coll_nodes::specs::TableLayout::collation))]
+    pub fn entry_before(&self, id: &Id) -> Option<&Entry>
+        ensures { option_copied result ≡ entry_before (entries_of (collation self.now)) id.now }
+    {
         self.body.entry_before(id)
     }
 
     /// The entry directly behind that of an identifier, in all sections joined, if both are there. It takes no memory.
-    pub fn entry_behind(&self, id: &Id) -> Option<&Entry> {
+    #[tactic(auto, unfolding(coll_nodes::specs::TableLayout::collation))]
+    pub fn entry_behind(&self, id: &Id) -> Option<&Entry>
+        ensures { option_copied result ≡ entry_behind (entries_of (collation self.now)) id.now }
+    {
         self.body.entry_behind(id)
     }
 
     /// The last entry of all, if there is one. It takes no memory.
-    pub fn last_entry(&self) -> Option<&Entry> {
+    #[tactic(auto, unfolding(coll_nodes::specs::TableLayout::collation))]
+    pub fn last_entry(&self) -> Option<&Entry>
+        ensures { option_copied result ≡ last_entry (entries_of (collation self.now)) }
+    {
         self.body.last_entry()
     }
 
     /// The name of the section in which the entry of an identifier stands, if there is one, and it has a name. It takes no memory.
-    pub fn section_name(&self, id: &Id) -> Option<&str> {
+    #[tactic(auto, unfolding(coll_nodes::specs::TableLayout::collation))]
+    pub fn section_name(&self, id: &Id) -> Option<&str>
+        ensures { option_map (λ name. chars name.now) result ≡ section_name (collation self.now).sections id.now }
+    {
         self.body.section_name(id)
     }
 
