@@ -1,3 +1,4 @@
+pub mod FollowedPlaces
 pub mod GivenUp
 pub mod HistoryLemmas
 pub mod HistorySteps

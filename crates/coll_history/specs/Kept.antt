@@ -5,6 +5,7 @@ use Rattle.coll_order.specs.declared.places.NodeId.{NodeId}
 use Rattle.coll_syntax.specs.Proper.{IsProper}
 use Rattle.coll_syntax.specs.declared.statements.Statement.{Statement}
 use Rattle.coll_table.specs.Delta.{delta}
+use Rattle.coll_history.specs.Following.{ArePlaces}
 use Rattle.coll_history.specs.Limits.{most_remaining}
 use Rattle.coll_history.specs.Histories.{History, SessionValue}
 use Rattle.coll_table.specs.Record.{Fits, dropped_nodes, statement_steps, turn}
@@ -55,13 +56,15 @@ abbrev pub session_of : TableValue → List Kept → List Kept → SessionValue
 session_of table remaining undone =
     record { history = history_of (uncounted table) remaining undone; layout = table.layout; steps = table.steps }
 
--- what holds of a session: its records lead where they say, the history isn't too long, and each undo and each redo has its room
+-- what holds of a session: its records lead where they say, the history isn't too long, each undo and each redo has its room, and
+-- the places that were handed over are those that they are said to be
 pub record IsSoundSession (s : Inside) : Type 0 where
   pub leads : Leads (uncounted s.table) s.remaining.items
   pub leads_on : LeadsOn (uncounted s.table) (reverse s.undone.items)
   pub few : vec_len s.remaining + vec_len s.undone ≤ most_remaining
   pub undo_room : vec_len s.remaining + vec_len s.undone ≤ vec_capacity s.undone
   pub redo_room : vec_len s.remaining + vec_len s.undone ≤ vec_capacity s.remaining
+  pub places : ArePlaces s.standing s.numbers (uncounted s.table) s.remaining.items s.undone.items
 
 -- the nodes that undone records would put in again
 abbrev pub added_by_all : List Kept → List NodeId

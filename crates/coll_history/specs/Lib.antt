@@ -1,4 +1,4 @@
-pub mod Followed
+pub mod Following
 pub mod Histories
 pub mod HistoryFaults
 pub mod Kept

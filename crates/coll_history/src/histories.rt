@@ -3,21 +3,22 @@
 //! A `Session` keeps the table as the statements that remain have made it, and with each statement the record that takes it back,
 //! or, once it is undone, puts it again. No other table is kept: an undo turns one record, at the nodes that its statement changed,
 //! and a withdrawal puts the later statements to the table anew. The invariant says that each record leads back to the table that
-//! its statement was accepted in. Whoever adds a call that changes the history has to keep to that, and to make the room that every
-//! later undo and redo needs before the table changes.
+//! its statement was accepted in. Whoever adds a call that changes the history has to keep to that, to say what becomes of the places
+//! that were handed over (`following`), and to make the room that every later undo and redo needs before the table changes.
 
 ghost use Rattle.std.specs.Prelude.{◌≡◌, ◌≢◌, ◌↔◌, ◌<◌, ◌≤◌, ◌+◌, [], length, reverse, slice_get, vec_len};
 ghost use Rattle.std.specs.Prelude.{vec_capacity, option_copied, IsOk, IsTrue, Ok, Err, IfOk, IfErr, OnOk, OnErr};
 ghost use Rattle.coll_syntax.specs.Proper.{IsProper};
-ghost use Rattle.coll_table.specs.Record.{AreLoose, Extends, Fits, dropped_nodes, more_steps, turn, without_nodes};
+ghost use Rattle.coll_table.specs.Record.{AreLoose, Extends, dropped_nodes, more_steps, without_nodes};
+ghost use Rattle.coll_nodes.specs.NodeNumbers.{AreNumbersOf};
 ghost use Rattle.coll_nodes.specs.TableLayout.{collation};
 ghost use Rattle.coll_history.specs.Kept.{added_by_all, statements_of};
-ghost use Rattle.coll_history.specs.Followed.{AreNumbersWhere};
 ghost use Rattle.coll_history.specs.Limits.{most_remaining};
 ghost use Rattle.coll_history.specs.declared.history_faults.BenchFault.TheVariants.{HistoryFull};
 ghost use Rattle.coll_history.specs.Histories.{History, begun, judged, taken_back, put_again, undo_steps};
 ghost use Rattle.coll_history.specs.Histories.{redo_steps, numbered, table_now, RefusesStatement};
 
+use crate::following::{Standing, catch_up, give_places};
 use crate::history_faults::BenchFault;
 use crate::limits::MOST_REMAINING;
 use coll_syntax::Statement;
@@ -45,6 +46,10 @@ pub struct Session {
     pub(crate) remaining: Vec<Kept>,
     /// The statements taken back; the last one here is the next to be put again.
     pub(crate) undone: Vec<Kept>,
+    /// The places of entries that were handed over last, or their memory alone.
+    pub(crate) numbers: EntryNumbers,
+    /// Which table these are the places of.
+    pub(crate) standing: Standing,
 }
 
 impl Model for Session {
@@ -70,6 +75,8 @@ impl Session {
             table,
             remaining: Vec::new(alloc),
             undone: Vec::new(alloc),
+            numbers: EntryNumbers::new(alloc),
+            standing: Standing::Unknown,
         }
     }
 
@@ -86,28 +93,6 @@ impl Session {
         ensures refused { IfErr result (λ fault. RefusesStatement self.old.history statement fault) }
         ensures unchanged { OnErr result (self.new ≡ self.old) }
     {
-        let mut none = EntryNumbers::new(*self.undone.allocator());
-        let count = self.statement_followed(statement, &mut none, &mut false)?;
-        Ok(count)
-    }
-
-    /// The same, and has places of entries that were said to be those of the table follow an accepted statement: they are those of the
-    /// table now, if they are still said to be. They take no memory.
-    pub fn statement_followed(
-        &mut self,
-        statement: Statement,
-        numbers: &mut EntryNumbers,
-        fresh: &mut bool,
-    ) -> Result<u32, BenchFault>
-        requires proper { IsProper statement }
-        requires places { AreNumbersWhere fresh.old numbers.old self.old.layout }
-        ensures accepted { IfOk result (λ _. judged self.old.history statement ≡ Ok self.new.history) }
-        ensures count { IfOk result (λ n. n ≡ length self.new.history.remaining) }
-        ensures full { most_remaining ≤ length self.old.history.remaining → result ≡ Err HistoryFull }
-        ensures refused { IfErr result (λ fault. RefusesStatement self.old.history statement fault) }
-        ensures unchanged { OnErr result (self.new ≡ self.old) }
-        ensures places { AreNumbersWhere fresh.new numbers.new self.new.layout }
-    {
         if self.remaining.len() >= MOST_REMAINING {
             drop(statement);
             return Err(BenchFault::HistoryFull);
@@ -123,6 +108,14 @@ impl Session {
         lemma_wider_tables_are_numbered_alike();
         lemma_undone_records_put_in();
         self.table.lemma_well_formed();
+        self.standing = catch_up(
+            &self.table,
+            &self.remaining,
+            &self.undone,
+            self.standing,
+            &mut self.numbers,
+            self.table.most_moves(1),
+        );
         let change = match self.table.apply(&statement) {
             Ok(change) => change,
             Err(refusal) => {
@@ -131,10 +124,10 @@ impl Session {
             }
         };
         self.table.lemma_well_formed();
-        follow(&self.table, &change, numbers, fresh);
         self.remaining.push_reserved(Kept { statement, change });
         give_up(&mut self.table, &mut self.undone);
         self.table.lemma_well_formed();
+        self.standing = self.standing.behind_statement();
         Ok(self.remaining.len() as u32)
     }
 
@@ -150,34 +143,14 @@ impl Session {
         ensures refused { IfErr result (λ fault. taken_back self.old.history ≡ Err fault) }
         ensures unchanged { OnErr result (self.new ≡ self.old) }
     {
-        let mut none = EntryNumbers::new(*self.undone.allocator());
-        let count = self.undo_followed(&mut none, &mut false)?;
-        Ok(count)
-    }
-
-    /// The same, and has places of entries that were said to be those of the table follow: they are those of the table now, if they are
-    /// still said to be.
-    pub fn undo_followed(
-        &mut self,
-        numbers: &mut EntryNumbers,
-        fresh: &mut bool,
-    ) -> Result<u32, BenchFault>
-        requires { AreNumbersWhere fresh.old numbers.old self.old.layout }
-        ensures undone { IfOk result (λ _. taken_back self.old.history ≡ Ok self.new.history) }
-        ensures count { IfOk result (λ n. n ≡ length self.new.history.remaining) }
-        ensures steps { OnOk result (self.new.steps ≡ more_steps self.old.steps (undo_steps self.old.history)) }
-        ensures refused { IfErr result (λ fault. taken_back self.old.history ≡ Err fault) }
-        ensures unchanged { OnErr result (self.new ≡ self.old) }
-        ensures places { AreNumbersWhere fresh.new numbers.new self.new.layout }
-    {
         let Some(mut kept) = self.remaining.pop() else {
             return Err(BenchFault::NothingToUndo);
         };
         self.table.lemma_well_formed();
         lemma_records_turn_back();
         self.table.flip(&mut kept.change);
-        follow(&self.table, &kept.change, numbers, fresh);
         self.undone.push_reserved(kept);
+        self.standing = self.standing.behind_undo();
         Ok(self.remaining.len() as u32)
     }
 
@@ -192,35 +165,47 @@ impl Session {
         ensures refused { IfErr result (λ fault. put_again self.old.history ≡ Err fault) }
         ensures unchanged { OnErr result (self.new ≡ self.old) }
     {
-        let mut none = EntryNumbers::new(*self.undone.allocator());
-        let count = self.redo_followed(&mut none, &mut false)?;
-        Ok(count)
-    }
-
-    /// The same, and has places of entries that were said to be those of the table follow: they are those of the table now, if they are
-    /// still said to be.
-    pub fn redo_followed(
-        &mut self,
-        numbers: &mut EntryNumbers,
-        fresh: &mut bool,
-    ) -> Result<u32, BenchFault>
-        requires { AreNumbersWhere fresh.old numbers.old self.old.layout }
-        ensures redone { IfOk result (λ _. put_again self.old.history ≡ Ok self.new.history) }
-        ensures count { IfOk result (λ n. n ≡ length self.new.history.remaining) }
-        ensures steps { OnOk result (self.new.steps ≡ more_steps self.old.steps (redo_steps self.old.history)) }
-        ensures refused { IfErr result (λ fault. put_again self.old.history ≡ Err fault) }
-        ensures unchanged { OnErr result (self.new ≡ self.old) }
-        ensures places { AreNumbersWhere fresh.new numbers.new self.new.layout }
-    {
         let Some(mut kept) = self.undone.pop() else {
             return Err(BenchFault::NothingToRedo);
         };
         self.table.lemma_well_formed();
         lemma_records_turn_back();
         self.table.flip(&mut kept.change);
-        follow(&self.table, &kept.change, numbers, fresh);
         self.remaining.push_reserved(kept);
+        self.standing = self.standing.behind_redo();
         Ok(self.remaining.len() as u32)
+    }
+
+    /// Takes the places of the table's entries over, to have them follow the changes to come. It takes no memory.
+    pub fn keep_places(&mut self, places: EntryNumbers)
+        requires { AreNumbersOf places self.old.layout }
+        ensures { self.new ≡ self.old }
+    {
+        drop(std::mem::replace(&mut self.numbers, places));
+        self.standing = Standing::Now;
+    }
+
+    /// Gives the places of the table's entries, for a look for so many characters: those that were handed over, where they have
+    /// followed what changed since and the look may go by their moves, else all anew.
+    ///
+    /// It takes memory only for nodes that the places handed over had no room for; where that is refused, none are known.
+    pub fn take_places(&mut self, characters: usize) -> Result<EntryNumbers, AllocError>
+        ensures places { IfOk result (λ places. AreNumbersOf places self.new.layout) }
+        ensures unchanged { self.new ≡ self.old }
+    {
+        let most_moves = self.table.most_moves(characters);
+        let standing = catch_up(
+            &self.table,
+            &self.remaining,
+            &self.undone,
+            self.standing,
+            &mut self.numbers,
+            most_moves,
+        );
+        self.standing = Standing::Unknown;
+        give_places(&self.table, standing, &mut self.numbers, most_moves)?;
+        let none = EntryNumbers::new(*self.undone.allocator());
+        Ok(std::mem::replace(&mut self.numbers, none))
     }
 
     /// How many statements remain.
@@ -272,19 +257,10 @@ impl Session {
             table,
             remaining: _,
             undone: _,
+            numbers: _,
+            standing: _,
         } = self;
         table
-    }
-}
-
-/// Has places of entries follow a record that was turned, where they are said to be those of the table before.
-pub(crate) fn follow(table: &Table, change: &Record, numbers: &mut EntryNumbers, fresh: &mut bool)
-    requires fits { Fits table.now change.now }
-    requires places { AreNumbersWhere fresh.old numbers.old (turn table.now change.now).layout }
-    ensures { AreNumbersWhere fresh.new numbers.new table.now.layout }
-{
-    if *fresh {
-        *fresh = table.follow(change, numbers);
     }
 }
 

@@ -4,11 +4,13 @@
 //! definitions in `specs/`:
 //!
 //! - `histories`: a table with its history (`Histories`, `Replay`, and of what is kept `Kept`);
+//! - `following`: places of entries that are handed over, and follow the table (`Following`);
 //! - `withdrawing`: a statement withdrawn from the middle (`Withdrawal`, and of the way there `Withdrawing`);
 //! - `laws`: what follows from the definitions (`Laws`);
 //! - `history_faults` and `limits`: why a history refuses, and how many statements remain at most (`HistoryFaults`, `Limits`).
 #![tactic(auto)]
 
+mod following;
 mod histories;
 mod history_faults;
 mod laws;

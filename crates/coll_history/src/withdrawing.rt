@@ -3,7 +3,8 @@
 //! The statements down to it are taken back, and those after it are put to the table anew, one after another. Their new records
 //! stand on a list of their own until all are accepted: where one is refused, or memory is, they are given back, the
 //! newest first, each of its nodes forgotten at once, and all statements are put up again, so that the very layout is there as
-//! before. No table is copied, and nothing on the way back takes memory. A change of the way keeps to the definition,
+//! before, and places of entries that were handed over are still those of the table. No table is copied, and nothing on the way back
+//! takes memory. A change of the way keeps to the definition,
 //! `specs/Withdrawal.antt`, and to the order in which undone records are given up: the one that was taken back last comes first.
 
 ghost use Rattle.std.specs.Prelude.{◌&&◌, nat_le, is_some, IfSome, ◌≡◌, ◌≢◌, ◌<◌, ◌≤◌, ◌+◌, ◌^◌, ◌∷◌, ◌++◌, ℕ, List, [], length};
@@ -11,7 +12,6 @@ ghost use Rattle.std.specs.Prelude.{reverse, true, false, vec_len, vec_capacity,
 ghost use Rattle.coll_nodes.specs.TableLayout.{TableValue, collation};
 ghost use Rattle.coll_table.specs.Record.{AreLoose, Extends, Fits, KeepsLoose, added_nodes, dropped_nodes, turn, without_nodes};
 ghost use Rattle.coll_table.specs.declared.refusals.Refusal.TheVariants.{OutOfMemory};
-ghost use Rattle.coll_history.specs.Followed.{AreNumbersWhere};
 ghost use Rattle.coll_history.specs.Histories.{History};
 ghost use Rattle.coll_history.specs.Kept.{Leads, LeadsOn, added_by_all, history_of, statements_of, uncounted};
 ghost use Rattle.coll_history.specs.Limits.{most_remaining};
@@ -21,55 +21,39 @@ ghost use Rattle.coll_history.specs.Withdrawing.{StandsBeforeLast, TurnsLast, gi
 ghost use Rattle.coll_history.specs.declared.histories.Kept.{Kept};
 ghost use Rattle.coll_history.specs.declared.history_faults.BenchFault.TheVariants as bench;
 
-use crate::histories::{Kept, Session, follow, give_up, give_up_one};
+use crate::following::{Standing, catch_up};
+use crate::histories::{Kept, Session, give_up, give_up_one};
 use crate::history_faults::BenchFault;
 use coll_table::{
-    EntryNumbers, Record, Refusal, Table, lemma_records_add_alike, lemma_records_fit_narrower,
+    Record, Refusal, Table, lemma_records_add_alike, lemma_records_fit_narrower,
     lemma_records_fit_wider, lemma_records_turn_back, lemma_undone_records_put_in,
-    lemma_wider_tables_are_numbered_alike, lemma_wider_tables_read_alike,
+    lemma_wider_tables_read_alike,
 };
 
-// Turns the record of the last statement of one list, which then stands last in the other. Places of entries follow it.
-fn turn_last(
-    table: &mut Table,
-    from: &mut Vec<Kept>,
-    onto: &mut Vec<Kept>,
-    numbers: &mut EntryNumbers,
-    numbered: &mut bool,
-)
+// Turns the record of the last statement of one list, which then stands last in the other.
+fn turn_last(table: &mut Table, from: &mut Vec<Kept>, onto: &mut Vec<Kept>)
     requires some { 0 < vec_len from.old }
     requires room { vec_len onto.old < vec_capacity onto.old }
     requires fits { LastFits (uncounted table.old) from.old.items }
-    requires places { AreNumbersWhere numbered.old numbers.old table.old.layout }
     ensures turned { TurnsLast (uncounted table.old) (uncounted table.new) from.old.items from.new.items onto.old.items onto.new.items }
     ensures from_len { vec_len from.new + 1 ≡ vec_len from.old }
     ensures onto_len { vec_len onto.new ≡ vec_len onto.old + 1 }
     ensures from_room { vec_capacity from.new ≡ vec_capacity from.old }
     ensures onto_room { vec_capacity onto.new ≡ vec_capacity onto.old }
-    ensures places { AreNumbersWhere numbered.new numbers.new table.new.layout }
 {
     let mut kept = from.take_last();
     table.lemma_well_formed();
     lemma_records_turn_back();
     table.flip(&mut kept.change);
-    follow(table, &kept.change, numbers, numbered);
     onto.push_reserved(kept);
 }
 
 // Takes so many of the last statements back. Their records lead up again to the very table.
-fn take_down(
-    table: &mut Table,
-    remaining: &mut Vec<Kept>,
-    undone: &mut Vec<Kept>,
-    count: usize,
-    numbers: &mut EntryNumbers,
-    numbered: &mut bool,
-)
+fn take_down(table: &mut Table, remaining: &mut Vec<Kept>, undone: &mut Vec<Kept>, count: usize)
     requires leads { Leads (uncounted table.old) remaining.old.items }
     requires leads_on { LeadsOn (uncounted table.old) (reverse undone.old.items) }
     requires count { count ≤ vec_len remaining.old }
     requires room { vec_len undone.old + count ≤ vec_capacity undone.old }
-    requires places { AreNumbersWhere numbered.old numbers.old table.old.layout }
     ensures leads { Leads (uncounted table.new) remaining.new.items }
     ensures leads_on { LeadsOn (uncounted table.new) (reverse undone.new.items) }
     ensures lowered { IsLowered (history_of (uncounted table.old) remaining.old.items undone.old.items)
@@ -79,29 +63,20 @@ fn take_down(
     ensures undone_len { vec_len undone.new ≡ vec_len undone.old + count }
     ensures remaining_room { vec_capacity remaining.new ≡ vec_capacity remaining.old }
     ensures undone_room { vec_capacity undone.new ≡ vec_capacity undone.old }
-    ensures places { AreNumbersWhere numbered.new numbers.new table.new.layout }
 {
     let mut taken = 0;
     'down: while taken < count {
-        turn_last(table, remaining, undone, numbers, numbered);
+        turn_last(table, remaining, undone);
         taken += 1;
     }
 }
 
 // Puts so many of the statements up again that were taken back last.
-fn put_up(
-    table: &mut Table,
-    remaining: &mut Vec<Kept>,
-    undone: &mut Vec<Kept>,
-    count: usize,
-    numbers: &mut EntryNumbers,
-    numbered: &mut bool,
-)
+fn put_up(table: &mut Table, remaining: &mut Vec<Kept>, undone: &mut Vec<Kept>, count: usize)
     requires leads { Leads (uncounted table.old) remaining.old.items }
     requires leads_on { LeadsOn (uncounted table.old) (reverse undone.old.items) }
     requires count { count ≤ vec_len undone.old }
     requires room { vec_len remaining.old + count ≤ vec_capacity remaining.old }
-    requires places { AreNumbersWhere numbered.old numbers.old table.old.layout }
     ensures leads { Leads (uncounted table.new) remaining.new.items }
     ensures leads_on { LeadsOn (uncounted table.new) (reverse undone.new.items) }
     ensures lowered { (high : History) → IsLowered high (history_of (uncounted table.old) remaining.old.items undone.old.items) count
@@ -111,11 +86,10 @@ fn put_up(
     ensures undone_len { vec_len undone.new + count ≡ vec_len undone.old }
     ensures remaining_room { vec_capacity remaining.new ≡ vec_capacity remaining.old }
     ensures undone_room { vec_capacity undone.new ≡ vec_capacity undone.old }
-    ensures places { AreNumbersWhere numbered.new numbers.new table.new.layout }
 {
     let mut left = count;
     'up: while left > 0 {
-        turn_last(table, undone, remaining, numbers, numbered);
+        turn_last(table, undone, remaining);
         left -= 1;
     }
 }
@@ -137,14 +111,11 @@ fn put_anew(
     later: &[Kept],
     first: u32,
     fresh: &mut Vec<Record>,
-    numbers: &mut EntryNumbers,
-    numbered: &mut bool,
 ) -> Result<(), BenchFault>
     requires proper { AreProper (reverse later.now) }
     requires numbers { first + length later.now < 2 ^ 32 }
     requires none { fresh.old.items ≡ [] }
     requires room { vec_len fresh.old + length later.now ≤ vec_capacity fresh.old }
-    requires places { AreNumbersWhere numbered.old numbers.old table.old.layout }
     ensures can { CanGiveBack (uncounted table.new) (reverse fresh.new.items) }
     ensures back { given_back (uncounted table.new) (reverse fresh.new.items) ≡ uncounted table.old }
     ensures rebuilt { OnOk result (IsRebuilt (uncounted table.old) (uncounted table.new) (paired (reverse later.now) fresh.new.items)) }
@@ -153,13 +124,11 @@ fn put_anew(
         (statements_of (reverse later.now)) ≡ Ok (collation (uncounted table.new))) }
     ensures refused { IfErr result (λ fault. fault ≢ bench.Table OutOfMemory → (left_out : ℕ) → left_out < first
         → withdrawn_from left_out first (collation (uncounted table.old)) (statements_of (reverse later.now)) ≡ Err fault) }
-    ensures places { AreNumbersWhere numbered.new numbers.new table.new.layout }
 {
     lemma_records_turn_back();
     lemma_records_fit_wider();
     lemma_records_fit_narrower();
     lemma_wider_tables_read_alike();
-    lemma_wider_tables_are_numbered_alike();
     let mut left = later;
     let mut number = first;
     'anew: while let Some((kept, rest)) = left.split_last() {
@@ -169,7 +138,6 @@ fn put_anew(
             Err(refusal) => return Err(needed_fault(number, refusal)),
         };
         table.lemma_well_formed();
-        follow(table, &change, numbers, numbered);
         fresh.push_reserved(change);
         number += 1;
         left = rest;
@@ -178,38 +146,26 @@ fn put_anew(
 }
 
 // Gives a new record back: its statement is undone, and the nodes that it added are dropped.
-fn give_back_one(table: &mut Table, change: Record, numbers: &mut EntryNumbers, numbered: &mut bool)
+fn give_back_one(table: &mut Table, change: Record)
     requires in_force { change.undone ≡ false }
     requires fits { Fits (uncounted table.old) change }
-    requires places { AreNumbersWhere numbered.old numbers.old table.old.layout }
-    ensures given { uncounted table.new ≡ without_nodes (turn (uncounted table.old) change) (added_nodes change.items) }
-    ensures places { AreNumbersWhere numbered.new numbers.new table.new.layout }
+    ensures { uncounted table.new ≡ without_nodes (turn (uncounted table.old) change) (added_nodes change.items) }
 {
     let mut turned = change;
     lemma_undone_records_put_in();
     lemma_records_add_alike();
-    lemma_wider_tables_are_numbered_alike();
     table.flip(&mut turned);
     table.lemma_well_formed();
-    follow(table, &turned, numbers, numbered);
     table.forget(turned);
-    table.lemma_well_formed();
 }
 
 // Gives new records back, the newest first.
-fn give_back(
-    table: &mut Table,
-    fresh: &mut Vec<Record>,
-    numbers: &mut EntryNumbers,
-    numbered: &mut bool,
-)
+fn give_back(table: &mut Table, fresh: &mut Vec<Record>)
     requires can { CanGiveBack (uncounted table.old) (reverse fresh.old.items) }
-    requires places { AreNumbersWhere numbered.old numbers.old table.old.layout }
-    ensures given { uncounted table.new ≡ given_back (uncounted table.old) (reverse fresh.old.items) }
-    ensures places { AreNumbersWhere numbered.new numbers.new table.new.layout }
+    ensures { uncounted table.new ≡ given_back (uncounted table.old) (reverse fresh.old.items) }
 {
     'fresh: while let Some(change) = fresh.pop() {
-        give_back_one(table, change, numbers, numbered);
+        give_back_one(table, change);
     }
 }
 
@@ -219,14 +175,11 @@ fn rebuild(
     later: &[Kept],
     first: u32,
     fresh: &mut Vec<Record>,
-    numbers: &mut EntryNumbers,
-    numbered: &mut bool,
 ) -> Result<(), BenchFault>
     requires proper { AreProper (reverse later.now) }
     requires numbers { first + length later.now < 2 ^ 32 }
     requires none { fresh.old.items ≡ [] }
     requires room { vec_len fresh.old + length later.now ≤ vec_capacity fresh.old }
-    requires places { AreNumbersWhere numbered.old numbers.old table.old.layout }
     ensures rebuilt { OnOk result (IsRebuilt (uncounted table.old) (uncounted table.new) (paired (reverse later.now) fresh.new.items)) }
     ensures count { OnOk result (vec_len fresh.new ≡ length later.now) }
     ensures accepted { OnOk result ((left_out : ℕ) → left_out < first → withdrawn_from left_out first (collation (uncounted table.old))
@@ -234,10 +187,9 @@ fn rebuild(
     ensures refused { IfErr result (λ fault. fault ≢ bench.Table OutOfMemory → (left_out : ℕ) → left_out < first
         → withdrawn_from left_out first (collation (uncounted table.old)) (statements_of (reverse later.now)) ≡ Err fault) }
     ensures unchanged { OnErr result (uncounted table.new ≡ uncounted table.old) }
-    ensures places { AreNumbersWhere numbered.new numbers.new table.new.layout }
 {
-    if let Err(fault) = put_anew(table, later, first, fresh, numbers, numbered) {
-        give_back(table, fresh, numbers, numbered);
+    if let Err(fault) = put_anew(table, later, first, fresh) {
+        give_back(table, fresh);
         return Err(fault);
     }
     Ok(())
@@ -328,8 +280,6 @@ fn withdraw_from(
     number: u32,
     later: usize,
     fresh: &mut Vec<Record>,
-    numbers: &mut EntryNumbers,
-    numbered: &mut bool,
 ) -> Result<(), BenchFault>
     requires leads { Leads (uncounted table.old) remaining.old.items }
     requires leads_on { LeadsOn (uncounted table.old) (reverse undone.old.items) }
@@ -340,7 +290,6 @@ fn withdraw_from(
     requires redo_room { vec_len remaining.old + vec_len undone.old ≤ vec_capacity remaining.old }
     requires none { fresh.old.items ≡ [] }
     requires room { later ≤ vec_capacity fresh.old }
-    requires places { AreNumbersWhere numbered.old numbers.old table.old.layout }
     ensures leads { Leads (uncounted table.new) remaining.new.items }
     ensures leads_on { LeadsOn (uncounted table.new) (reverse undone.new.items) }
     ensures withdrawn { OnOk result (withdrawn (history_of (uncounted table.old) remaining.old.items undone.old.items) number
@@ -353,19 +302,16 @@ fn withdraw_from(
     ensures fewer { vec_len remaining.new + vec_len undone.new ≤ vec_len remaining.old + vec_len undone.old }
     ensures remaining_room { vec_capacity remaining.new ≡ vec_capacity remaining.old }
     ensures undone_room { vec_capacity undone.new ≡ vec_capacity undone.old }
-    ensures places { AreNumbersWhere numbered.new numbers.new table.new.layout }
 {
     lemma_records_turn_back();
     lemma_records_fit_wider();
     lemma_records_fit_narrower();
     lemma_wider_tables_read_alike();
     lemma_undone_records_put_in();
-    lemma_wider_tables_are_numbered_alike();
-    take_down(table, remaining, undone, later + 1, numbers, numbered);
+    take_down(table, remaining, undone, later + 1);
     table.lemma_well_formed();
-    let put = before_last(undone, later);
-    if let Err(fault) = rebuild(table, put, number + 1, fresh, numbers, numbered) {
-        put_up(table, remaining, undone, later + 1, numbers, numbered);
+    if let Err(fault) = rebuild(table, before_last(undone, later), number + 1, fresh) {
+        put_up(table, remaining, undone, later + 1);
         return Err(fault);
     }
     table.lemma_well_formed();
@@ -407,30 +353,6 @@ impl Session {
         ensures unchanged { OnErr result (self.new.history ≡ self.old.history) }
         ensures layout { OnErr result (self.new.layout ≡ self.old.layout) }
     {
-        let mut none = EntryNumbers::new(*self.undone.allocator());
-        let count = self.withdraw_followed(number, &mut none, &mut false)?;
-        Ok(count)
-    }
-
-    /// The same, and has places of entries that were said to be those of the table follow: they are those of the table now, if they are
-    /// still said to be. They take no memory.
-    pub fn withdraw_followed(
-        &mut self,
-        number: u32,
-        numbers: &mut EntryNumbers,
-        numbered: &mut bool,
-    ) -> Result<u32, BenchFault>
-        requires { AreNumbersWhere numbered.old numbers.old self.old.layout }
-        ensures withdrawn { IfOk result (λ _. withdrawn self.old.history number ≡ Ok self.new.history) }
-        ensures count { IfOk result (λ n. n ≡ length self.new.history.remaining) }
-        ensures refused { IfErr result (λ fault. fault ≢ bench.Table OutOfMemory → withdrawn self.old.history number ≡ Err fault) }
-        ensures memory { IfErr result (λ fault. fault ≡ bench.Table OutOfMemory → is_numbered self.old.history number ≡ true) }
-        ensures missing { withdrawn self.old.history number ≡ Err bench.NoSuchStatement → result ≡ Err bench.NoSuchStatement }
-        ensures missing_changes_nothing { withdrawn self.old.history number ≡ Err bench.NoSuchStatement → self.new ≡ self.old }
-        ensures unchanged { OnErr result (self.new.history ≡ self.old.history) }
-        ensures layout { OnErr result (self.new.layout ≡ self.old.layout) }
-        ensures places { AreNumbersWhere numbered.new numbers.new self.new.layout }
-    {
         let Some(later) = later_than(number, self.remaining.len()) else {
             return Err(BenchFault::NoSuchStatement);
         };
@@ -438,6 +360,14 @@ impl Session {
             Ok(fresh) => fresh,
             Err(refused) => return Err(BenchFault::from(refused)),
         };
+        self.standing = catch_up(
+            &self.table,
+            &self.remaining,
+            &self.undone,
+            self.standing,
+            &mut self.numbers,
+            self.table.most_moves(1),
+        );
         let refused = withdraw_from(
             &mut self.table,
             &mut self.remaining,
@@ -445,12 +375,13 @@ impl Session {
             number,
             later,
             &mut fresh,
-            numbers,
-            numbered,
         );
         drop(fresh);
         match refused {
-            Ok(()) => Ok(self.remaining.len() as u32),
+            Ok(()) => {
+                self.standing = Standing::Unknown;
+                Ok(self.remaining.len() as u32)
+            }
             Err(fault) => Err(fault),
         }
     }

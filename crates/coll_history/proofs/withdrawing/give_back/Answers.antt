@@ -16,13 +16,12 @@ give_back_one-requires-clause-fits c =
 
 pub fresh-preserved : goal.fresh-preserved
 fresh-preserved c = record {
-  can = subst (λ (t : TableValue). CanGiveBack t (reverse c.pop.new.self.items)) (sym c.give_back_one.ensures.given)
+  can = subst (λ (t : TableValue). CanGiveBack t (reverse c.pop.new.self.items)) (sym c.give_back_one.ensures)
       (can_newest (uncounted c.fresh.table) c.fresh.fresh.items c.pop.new.self.items c.in-Some.change c.in-Some.ensures.items c.fresh.invariant.can).2;
-  same = ap (λ (t : TableValue). given_back t (reverse c.pop.new.self.items)) c.give_back_one.ensures.given
+  same = ap (λ (t : TableValue). given_back t (reverse c.pop.new.self.items)) c.give_back_one.ensures
       ∙ sym (back_newest (uncounted c.fresh.table) c.fresh.fresh.items c.pop.new.self.items c.in-Some.change c.in-Some.ensures.items)
       ∙ c.fresh.invariant.same;
-  places = c.give_back_one.ensures.places;
 }
 
-pub returns-clause-given : goal.returns-clause-given
-returns-clause-given c = sym (back_none (uncounted c.fresh.table) c.fresh.fresh.items (none_left c.fresh.fresh.items (omega (arith, c.in_default.ensures.cases.0, c.fresh.fresh.ok.0)))) ∙ c.fresh.invariant.same
+pub returns : goal.returns
+returns c = sym (back_none (uncounted c.fresh.table) c.fresh.fresh.items (none_left c.fresh.fresh.items (omega (arith, c.in_default.ensures.cases.0, c.fresh.fresh.ok.0)))) ∙ c.fresh.invariant.same

@@ -3,7 +3,6 @@ use Rattle.std.proofs.Common.{◌≡◌, ◌≢◌, ◌<◌, ◌∷◌, ◌∙�
 use Rattle.coll_nodes.specs.Table.{Collation}
 use Rattle.coll_nodes.specs.TableLayout.{collation}
 use Rattle.coll_table.specs.Delta.{delta}
-use Rattle.coll_table.specs.Record.{turn}
 use Rattle.coll_table.specs.declared.records.Record.{Record}
 use Rattle.coll_table.specs.declared.refusals.Refusal.TheVariants.{OutOfMemory}
 use Rattle.coll_history.specs.Kept.{uncounted}
@@ -25,16 +24,10 @@ anew-init c = record {
   number = omega (arith, ap length c.requires.none, c.args.fresh.now.ok.0);
   same = λ left_out below. refl;
   room = refl;
-  places = c.requires.places;
 }
 
 pub apply-requires : goal.apply-requires
 apply-requires c = record { proper = (first_proper c.anew.left.now c.in-Some.rest.now c.in-Some.kept.now c.in-Some.ensures.cases.0 c.anew.invariant.proper).0 }
-
-pub follow-requires-clause-places : goal.follow-requires-clause-places
-follow-requires-clause-places c = λ numbered.
-    (c.lemma_wider_tables_are_numbered_alike.ensures (turn c.apply.new.self c.in-Ok.change) c.anew.table c.anew.numbers c.lemma_well_formed.ensures.table c.in-Ok.ensures.back).wider
-    (c.anew.invariant.places numbered)
 
 pub returns-in-Err-clause-refused : goal.returns-in-Err-clause-refused
 returns-in-Err-clause-refused c = λ other left_out below.
@@ -78,7 +71,6 @@ anew-preserved c =
           ∙ goes_on_with left_out c.anew.number (collation (uncounted table)) (collation (uncounted after)) c.anew.left.now rest k c.in-Some.ensures.cases.0
           (omega (arith, c.anew.invariant.number, below)) a.accepted;
       room = c.push_reserved.ensures.capacity ∙ c.anew.invariant.room;
-      places = c.follow.ensures;
     }
 
 pub returns-clause-accepted : goal.returns-clause-accepted

@@ -2,7 +2,6 @@
 use Rattle.std.proofs.Common.{◌≡◌, ◌+◌, ◌<◌, ℕ, length, vec_len, reverse}
 use Rattle.std.specs.Vec.{vec_capacity}
 use Rattle.coll_nodes.specs.TableLayout.{collation}
-use Rattle.coll_history.specs.Followed.{AreNumbersWhere}
 use Rattle.coll_history.specs.Kept.{statements_of, uncounted}
 use Rattle.coll_history.specs.Withdrawal.{withdrawn_from}
 use Rattle.coll_history.specs.Withdrawing.{AreProper, CanGiveBack, IsRebuilt, given_back, paired}
@@ -21,7 +20,6 @@ invariant-anew l = record {
   same : (left_out : ℕ) → left_out < l.first → withdrawn_from left_out l.first (collation (uncounted l.initial.table)) (statements_of (reverse l.later))
       ≡ withdrawn_from left_out l.number (collation (uncounted l.table)) (statements_of (reverse l.left));
   room : vec_capacity l.fresh ≡ vec_capacity l.initial.fresh;
-  places : AreNumbersWhere l.numbered l.numbers l.table.layout;
 }
 
 abbrev pub decreases-anew : goal.decreases-anew

@@ -24,7 +24,6 @@ up-preserved c =
       undone_len = omega (arith, c.turn_last.ensures.from_len, c.up.invariant.undone_len, c.up-test.true);
       remaining_room = c.turn_last.ensures.onto_room ∙ c.up.invariant.remaining_room;
       undone_room = c.turn_last.ensures.from_room ∙ c.up.invariant.undone_room;
-      places = c.turn_last.ensures.places;
     }
 
 pub returns-clause-lowered : goal.returns-clause-lowered

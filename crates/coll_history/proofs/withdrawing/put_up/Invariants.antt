@@ -1,7 +1,6 @@
 -- So many are left to be put up.
 use Rattle.std.proofs.Common.{◌≡◌, ◌+◌, ◌≤◌, vec_len, reverse}
 use Rattle.std.specs.Vec.{vec_capacity}
-use Rattle.coll_history.specs.Followed.{AreNumbersWhere}
 use Rattle.coll_history.specs.Histories.{History}
 use Rattle.coll_history.specs.Kept.{Leads, LeadsOn, history_of, uncounted}
 use Rattle.coll_history.specs.Withdrawing.{IsLowered, raised}
@@ -19,7 +18,6 @@ invariant-up l = record {
   undone_len : vec_len l.undone + l.count ≡ vec_len l.initial.undone + l.left;
   remaining_room : vec_capacity l.remaining ≡ vec_capacity l.initial.remaining;
   undone_room : vec_capacity l.undone ≡ vec_capacity l.initial.undone;
-  places : AreNumbersWhere l.numbered l.numbers l.table.layout;
 }
 
 abbrev pub decreases-up : goal.decreases-up

@@ -22,7 +22,6 @@ down-preserved c =
       undone_len = omega (arith, c.turn_last.ensures.onto_len, c.down.invariant.undone_len);
       remaining_room = c.turn_last.ensures.from_room ∙ c.down.invariant.remaining_room;
       undone_room = c.turn_last.ensures.onto_room ∙ c.down.invariant.undone_room;
-      places = c.turn_last.ensures.places;
     }
 
 pub down-init : goal.down-init
@@ -36,5 +35,4 @@ down-init c = record {
   undone_len = omega arith;
   remaining_room = refl;
   undone_room = refl;
-  places = c.requires.places;
 }

@@ -1,7 +1,6 @@
 -- So many are taken back.
 use Rattle.std.proofs.Common.{◌≡◌, ◌+◌, ◌-◌, ◌≤◌, vec_len, reverse}
 use Rattle.std.specs.Vec.{vec_capacity}
-use Rattle.coll_history.specs.Followed.{AreNumbersWhere}
 use Rattle.coll_history.specs.Kept.{Leads, LeadsOn, history_of, uncounted}
 use Rattle.coll_history.specs.Withdrawing.{IsLowered, raised}
 use Rattle.coll_history.proofs.withdrawing.take_down.Given as goal
@@ -17,7 +16,6 @@ invariant-down l = record {
   undone_len : vec_len l.undone ≡ vec_len l.initial.undone + l.taken;
   remaining_room : vec_capacity l.remaining ≡ vec_capacity l.initial.remaining;
   undone_room : vec_capacity l.undone ≡ vec_capacity l.initial.undone;
-  places : AreNumbersWhere l.numbered l.numbers l.table.layout;
 }
 
 abbrev pub decreases-down : goal.decreases-down

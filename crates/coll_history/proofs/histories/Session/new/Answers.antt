@@ -11,6 +11,7 @@ invariant_of-result c = record {
   few = omega (arith, c.new.ensures.len, c.new-2.ensures.len);
   undo_room = omega (arith, c.new.ensures.len, c.new-2.ensures.len);
   redo_room = omega (arith, c.new.ensures.len, c.new-2.ensures.len);
+  places = tt;
 }
 
 pub returns-clause-history : goal.returns-clause-history

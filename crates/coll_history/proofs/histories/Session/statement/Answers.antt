@@ -2,17 +2,18 @@
 use Rattle.std.proofs.Common.{◌≡◌, List, [], ◌∷◌, ◌++◌, reverse, Ok, Err, sym, ap, ◌∙◌, subst, arith}
 use Rattle.coll_table.specs.Delta.{delta}
 use Rattle.coll_history.specs.Histories.{SessionValue, judged}
+use Rattle.coll_history.specs.Following.{ArePlaces, behind_statement}
 use Rattle.coll_history.specs.Kept.{added_by_all, history_of, uncounted, Leads}
-use Rattle.coll_table.specs.Record.{AreLoose, turn}
-use Rattle.coll_nodes.specs.NodeNumbers.{AreNumbersOf}
+use Rattle.coll_table.specs.Record.{AreLoose}
 use Rattle.coll_nodes.specs.Table.{Collation}
 use Rattle.coll_nodes.specs.TableLayout.{collation}
 use Rattle.coll_history.specs.declared.history_faults.BenchFault.TheVariants.{Table, HistoryFull}
 use Rattle.coll_history.specs.declared.histories.Kept.{Kept}
 use Rattle.coll_history.proofs.GivenUp.{undone_loose, loose_kept}
+use Rattle.coll_history.proofs.FollowedPlaces.{places_accepted}
 use Rattle.coll_history.proofs.HistoryLemmas.{replayed, judged_full, judged_refused, judged_accepted, history_with, LeadsOn_none, length-remaining}
 use Rattle.coll_history.proofs.HistorySteps.{accepts, collation_uncounted, leads_with, table_uncounted, Accepts}
-use Rattle.coll_history.proofs.histories.Session.statement_followed.Goals as goal
+use Rattle.coll_history.proofs.histories.Session.statement.Goals as goal
 
 pub returns-then-len-ge-MOST_REMAINING-clause-refused : goal.returns-then-len-ge-MOST_REMAINING-clause-refused
 returns-then-len-ge-MOST_REMAINING-clause-refused c = λ _.
@@ -48,12 +49,17 @@ invariant_of-self-2 c =
     c.in-Ok.ensures.ok c.in-Ok.ensures.in_force c.in-Ok.ensures.fits c.in-Ok.ensures.back c.in-Ok.ensures.steps c.give_up.ensures.table in
     let then = leads_with c.lemma_records_turn_back.ensures c.lemma_records_fit_wider.ensures c.lemma_records_fit_narrower.ensures c.lemma_wider_tables_read_alike.ensures (uncounted s.table)
     (uncounted c.apply.new.self) (uncounted c.give_up.new.table) s.remaining.items k a c.self.invariant.leads in
+    let grown = c.push_reserved.ensures.items ∙ ap (λ (ks : List Kept). ks ++ k ∷ []) c.make_room.ensures.remaining in
     record {
-      leads = subst (Leads (uncounted c.give_up.new.table)) (sym (c.push_reserved.ensures.items ∙ ap (λ (ks : List Kept). ks ++ k ∷ []) c.make_room.ensures.remaining)) then.leads;
+      leads = subst (Leads (uncounted c.give_up.new.table)) (sym grown) then.leads;
       leads_on = LeadsOn_none (uncounted c.give_up.new.table) _ c.give_up.ensures.undone;
       few = omega (arith, c.push_reserved.ensures.len, c.make_room.ensures.len, c.if-len-ge-MOST_REMAINING.false, c.len.ensures, c.give_up.ensures.len);
       undo_room = omega (arith, c.push_reserved.ensures.len, c.make_room.ensures.len, c.in_default.ensures.room, c.give_up.ensures.len, c.give_up.ensures.room);
       redo_room = omega (arith, c.push_reserved.ensures.len, c.push_reserved.ensures.capacity, c.make_room.ensures.len, c.in_default.ensures.place, c.give_up.ensures.len);
+      places = rw c.behind_statement-self-inside.ensures
+          (subst (λ (ks : List Kept). ArePlaces (behind_statement c.catch_up-self-inside.result) c.catch_up-self-inside.new.numbers (uncounted c.give_up.new.table) ks c.give_up.new.undone.items) (sym grown)
+          (places_accepted c.lemma_records_turn_back.ensures c.lemma_records_fit_narrower.ensures c.lemma_wider_tables_are_numbered_alike.ensures c.catch_up-self-inside.new.numbers (uncounted s.table)
+          (uncounted c.apply.new.self) (uncounted c.give_up.new.table) s.remaining.items c.give_up.new.undone.items k a c.catch_up-self-inside.result c.catch_up-self-inside.ensures));
     }
 
 pub returns-clause-accepted : goal.returns-clause-accepted
@@ -73,14 +79,3 @@ returns-clause-accepted c =
     ≡ collation (Rattle.coll_history.specs.Kept.undone_by (uncounted s.table) s.remaining.items)) (sym grown) then.start in
     subst (λ (v : SessionValue). judged v.history c.args.statement ≡ Ok (history_of (uncounted c.give_up.new.table) c.push_reserved.new.self.items c.give_up.new.undone.items)) c.self.view_is
     (accepted ∙ ap Ok (sym (history_with _ _ s.remaining.items s.undone.items _ c.give_up.new.undone.items k grown c.give_up.ensures.undone start)))
-
-pub follow-requires-clause-places : goal.follow-requires-clause-places
-follow-requires-clause-places c = λ fresh.
-    let s = c.self.inside in
-    let places = subst (λ (v : SessionValue). AreNumbersOf c.args.numbers.now v.layout) (sym c.self.view_is) (c.requires.places fresh) in
-    (c.lemma_wider_tables_are_numbered_alike.ensures (turn c.apply.new.self c.in-Ok.change) s.table c.args.numbers.now c.lemma_well_formed.ensures.table c.in-Ok.ensures.back).wider places
-
-pub returns-clause-places : goal.returns-clause-places
-returns-clause-places c = λ fresh.
-    (c.lemma_wider_tables_are_numbered_alike.ensures c.apply.new.self c.give_up.new.table c.follow.new.numbers c.lemma_well_formed-3.ensures.table c.give_up.ensures.table).narrower
-    (c.follow.ensures fresh)

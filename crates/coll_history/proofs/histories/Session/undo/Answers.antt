@@ -1,14 +1,16 @@
 -- An undo turns the last record, which leads back to the table before its statement.
 use Rattle.std.proofs.Common.{◌≡◌, Ok, Err, refl, subst, sym, ap, ◌∙◌, List, [], ◌∷◌, ◌++◌, reverse, arith}
 use Rattle.coll_history.specs.Histories.{SessionValue, taken_back, undo_steps}
+use Rattle.coll_history.specs.Following.{ArePlaces}
 use Rattle.coll_history.specs.Kept.{Leads, LeadsOn, history_of, uncounted}
 use Rattle.coll_table.specs.Record.{more_steps}
 use Rattle.coll_history.specs.declared.history_faults.BenchFault.TheVariants.{NothingToUndo}
 use Rattle.coll_history.specs.declared.histories.Kept.{Kept}
 use Rattle.coll_history.specs.Withdrawing.{IsTurned}
+use Rattle.coll_history.proofs.FollowedPlaces.{places_undone}
 use Rattle.coll_history.proofs.HistoryLemmas.{nothing_left, taken_back_none, Leads-last}
 use Rattle.coll_history.proofs.HistorySteps.{fits_counted, is_turned, leads_shorter, leads_on_longer, history_undone, steps_undone}
-use Rattle.coll_history.proofs.histories.Session.undo_followed.Goals as goal
+use Rattle.coll_history.proofs.histories.Session.undo.Goals as goal
 
 pub returns-in_default-clause-refused : goal.returns-in_default-clause-refused
 returns-in_default-clause-refused c =
@@ -43,6 +45,9 @@ invariant_of-self-2 c =
       few = omega (arith, c.in-Some.ensures.cases, c.self.invariant.few, c.push_reserved.ensures.len);
       undo_room = omega (arith, c.in-Some.ensures.cases, c.self.invariant.undo_room, c.push_reserved.ensures.len, c.push_reserved.ensures.capacity);
       redo_room = omega (arith, c.in-Some.ensures.cases, c.self.invariant.redo_room, c.push_reserved.ensures.len, c.pop.ensures.capacity);
+      places = rw (c.behind_undo-self-inside.ensures, c.push_reserved.ensures.items)
+          (places_undone s.numbers (uncounted s.table) (uncounted c.flip.new.self) c.pop.new.self.items s.undone.items c.in-Some.kept _ (turned_record c) s.standing
+          (subst (λ (ks : List Kept). ArePlaces s.standing s.numbers (uncounted s.table) ks s.undone.items) c.in-Some.ensures.items c.self.invariant.places));
     }
 
 pub returns-clause-undone : goal.returns-clause-undone

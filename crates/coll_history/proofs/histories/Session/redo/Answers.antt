@@ -1,14 +1,16 @@
 -- A redo turns the record of the next statement, which leads on to the table that the statement gives.
 use Rattle.std.proofs.Common.{◌≡◌, Ok, Err, refl, subst, sym, ap, ◌∙◌, List, [], ◌∷◌, ◌++◌, reverse, arith}
 use Rattle.coll_history.specs.Histories.{SessionValue, put_again, redo_steps}
+use Rattle.coll_history.specs.Following.{ArePlaces}
 use Rattle.coll_history.specs.Kept.{Leads, LeadsOn, history_of, uncounted}
 use Rattle.coll_table.specs.Record.{more_steps}
 use Rattle.coll_history.specs.declared.history_faults.BenchFault.TheVariants.{NothingToRedo}
 use Rattle.coll_history.specs.declared.histories.Kept.{Kept}
 use Rattle.coll_history.specs.Withdrawing.{IsTurned}
+use Rattle.coll_history.proofs.FollowedPlaces.{places_redone}
 use Rattle.coll_history.proofs.HistoryLemmas.{nothing_left, put_again_none}
 use Rattle.coll_history.proofs.HistorySteps.{fits_counted, is_turned, leads_next, leads_longer, leads_on_shorter, history_redone, steps_redone}
-use Rattle.coll_history.proofs.histories.Session.redo_followed.Goals as goal
+use Rattle.coll_history.proofs.histories.Session.redo.Goals as goal
 
 pub returns-in_default-clause-refused : goal.returns-in_default-clause-refused
 returns-in_default-clause-refused c =
@@ -44,6 +46,9 @@ invariant_of-self-2 c =
       few = omega (arith, c.in-Some.ensures.cases, c.self.invariant.few, c.push_reserved.ensures.len);
       undo_room = omega (arith, c.in-Some.ensures.cases, c.self.invariant.undo_room, c.push_reserved.ensures.len, c.pop.ensures.capacity);
       redo_room = omega (arith, c.in-Some.ensures.cases, c.self.invariant.redo_room, c.push_reserved.ensures.len, c.push_reserved.ensures.capacity);
+      places = rw (c.behind_redo-self-inside.ensures, c.push_reserved.ensures.items)
+          (places_redone s.numbers (uncounted s.table) (uncounted c.flip.new.self) s.remaining.items c.pop.new.self.items c.in-Some.kept _ (turned_record c) s.standing
+          (subst (λ (ks : List Kept). ArePlaces s.standing s.numbers (uncounted s.table) s.remaining.items ks) c.in-Some.ensures.items c.self.invariant.places));
     }
 
 pub returns-clause-redone : goal.returns-clause-redone

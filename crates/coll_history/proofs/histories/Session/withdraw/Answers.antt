@@ -5,7 +5,7 @@ use Rattle.coll_history.specs.Kept.{uncounted}
 use Rattle.coll_history.specs.Withdrawal.{is_numbered, withdrawn}
 use Rattle.coll_history.specs.declared.history_faults.BenchFault.TheVariants.{NoSuchStatement}
 use Rattle.coll_history.proofs.WithdrawnStatements.{is_missing, not_missing, numbered_here}
-use Rattle.coll_history.proofs.histories.Session.withdraw_followed.Goals as goal
+use Rattle.coll_history.proofs.histories.Session.withdraw.Goals as goal
 
 pub returns-in_default-clause-refused : goal.returns-in_default-clause-refused
 returns-in_default-clause-refused c = λ other.
@@ -21,15 +21,15 @@ returns-in-Err-clause-missing c = λ missing.
     (subst (λ (v : SessionValue). is_numbered v.history c.args.number ≡ true) c.self.view_is
     (numbered_here (uncounted s.table) s.remaining.items s.undone.items c.args.number c.len.result true (omega (arith, c.len.ensures, s.remaining.ok.0)) c.in-Some.ensures.numbered)) missing)
 
-pub returns-clause-missing : goal.returns-clause-missing
-returns-clause-missing c = λ missing.
+pub returns-in-Err-refused-clause-missing : goal.returns-in-Err-refused-clause-missing
+returns-in-Err-refused-clause-missing c = λ missing.
     let s = c.self.inside in
     absurd (not_missing c.args.self.now.history c.args.number
     (subst (λ (v : SessionValue). is_numbered v.history c.args.number ≡ true) c.self.view_is
     (numbered_here (uncounted s.table) s.remaining.items s.undone.items c.args.number c.len.result true (omega (arith, c.len.ensures, s.remaining.ok.0)) c.in-Some.ensures.numbered)) missing)
 
-pub returns-clause-missing_changes_nothing : goal.returns-clause-missing_changes_nothing
-returns-clause-missing_changes_nothing c = λ missing.
+pub returns-in-Err-refused-clause-missing_changes_nothing : goal.returns-in-Err-refused-clause-missing_changes_nothing
+returns-in-Err-refused-clause-missing_changes_nothing c = λ missing.
     let s = c.self.inside in
     absurd (not_missing c.args.self.now.history c.args.number
     (subst (λ (v : SessionValue). is_numbered v.history c.args.number ≡ true) c.self.view_is
