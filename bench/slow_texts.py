@@ -11,7 +11,8 @@ compared. Of a session it goes beyond that of the same session without its last 
 hash and elements that share their beginnings have scripts of their own, hostile_names.py and hostile_elements.py. Words choose the
 rows whose names have one of them.
 
-Target: twice the size takes at most 2.6 times as long, which is what sorting would take, or less than 0.1 s in all.
+Target: twice the size takes at most 2.6 times as long, which is what sorting would take, or less than 0.1 s in all. Looks each of which
+comes behind a change take, with the changes, at most four times as long as the same changes and then the same looks, or less than 0.1 s.
 """
 
 import os
@@ -65,6 +66,16 @@ def block(count, target="a"):
     """A block of this many lines, each with weights."""
     lines = "".join(f"{character(number)} {character(number)};a;IGNORE;a\n" for number in range(count))
     return f"reorder-after {target}\n{lines}reorder-end\n"
+
+
+def declared_symbols(count):
+    """A table of four entries beside symbols that are declared and not placed."""
+    return table("a\nb\nc\nd\n", "".join(f"collating-symbol <S{number}>\n" for number in range(count)))
+
+
+def put_behind(target, moved):
+    """A block that puts what is placed behind another."""
+    return f"reorder-after {target}\n{''.join(f'{it}{chr(10)}' for it in moved)}reorder-end\n"
 
 
 FLAT = table("a\nb\nc\nd\n", rules="forward;forward;forward;forward")
@@ -181,6 +192,23 @@ FILES = {
         MOST_ENTRIES, lambda n: (["diff", "table", "other"], {"table": characters(n), "other": backward(n)}, "")),
 }
 
+# Of each row of looks behind changes: its name, how many times, the table, the lines before, the changes, and the look behind each.
+TURNS = [":undo\n", ":redo\n"]
+HIGH = f':key "{chr(0x10005)}"\n'
+LOOKS = {
+    "few entries beside many declarations, behind blocks": (
+        20_000, lambda: declared_symbols(262_000), "", [put_behind("a", [it]) for it in "cd"], ':key "ab"\n'),
+    "few entries beside many declarations, behind undos": (
+        20_000, lambda: declared_symbols(262_000), put_behind("b", ["a"]), TURNS, ':key "b"\n'),
+    "many entries, behind withdrawals that are refused": (
+        2_000, lambda: characters(260_000), put_behind(character(1), ["a"]) + put_behind("a", [character(0)]), [":withdraw 1\n"], HIGH),
+    "few entries, behind undos of a block that moves a half of them": (
+        20_000, lambda: characters(300), put_behind(character(1), map(character, range(257, 1, -2))), TURNS, HIGH),
+    "a thousand entries, behind undos of a block that moves some of them": (
+        10_000, lambda: characters(1_100), put_behind(character(1), map(character, range(257, 1, -2))), TURNS, HIGH),
+}
+APART = 4
+
 
 def time(program, words, lines=b""):
     """The least processor time of some runs, in seconds."""
@@ -238,6 +266,20 @@ def files(program, folder, chosen):
             yield show(name, size, *times, sum(len(text.encode()) for text in (lines, *texts.values())))
 
 
+def looks(program, folder, chosen):
+    for name, (count, text, before, changes, look) in LOOKS.items():
+        if chosen(name):
+            with open(f"{folder}/table", "w", encoding="utf-8") as file:
+                file.write(text())
+            among = "".join(change + look for change in changes) * count
+            apart = "".join(changes) * count + look * len(changes) * count
+            load, *seconds = (time(program, ["session", f"{folder}/table"], (before + lines).encode()) for lines in ("", among, apart))
+            mixed, parted = (it - load for it in seconds)
+            met = mixed <= max(SECONDS, APART * parted)
+            print(f"looks: {name}: {mixed:.3f} s, and {parted:.3f} s apart from the changes{'' if met else ', TOO SLOW'}", flush=True)
+            yield met
+
+
 def words(program, folder, chosen):
     name, size = "key: many words", 100_000
     if chosen(name):
@@ -251,7 +293,7 @@ def main(program, folder, some):
     def chosen(name):
         return not some or any(word in name for word in some)
 
-    met = [row for rows in (loads, sessions, files, words) for row in rows(program, folder, chosen)]
+    met = [row for rows in (loads, sessions, looks, files, words) for row in rows(program, folder, chosen)]
     print(f"{sum(met)} of {len(met)} rows are as wanted")
     letters = random.Random(7)
     million = "".join("".join(letters.choices("abcdefghijklmnopqrstuvwxyz", k=9)) + "\n" for _ in range(1_000_000))
