@@ -1,1 +1,2 @@
+mod CharSets
 mod NameLemmas

@@ -1,2 +1,3 @@
+pub mod CharSets
 pub mod LeftOut
 pub mod NameKeys

@@ -8,10 +8,12 @@
 //! the order of their names, and no name of one stands between two of another, so a name is looked for in one of them, which is found by
 //! halves.
 
-ghost use Rattle.std.specs.Prelude.{◌≡◌, ◌≤◌, vec_len};
+ghost use Rattle.std.specs.Prelude.{◌≡◌, ◌<◌, ◌≤◌, ◌+◌, ◌-◌, ◌^◌, ℕ, min, Some, chars, vec_len, OnOk, OnErr};
+ghost use Rattle.std.specs.Bool.{OnTrue};
 ghost use Rattle.std.specs.Str.{bytes_eq};
 ghost use Rattle.indexmap.specs.IndexMap.{index_of_by};
 ghost use Rattle.coll_meanings.specs.NameKeys.{bytes_of};
+ghost use Rattle.coll_sources.specs.NameRanges.{range_name, HasNumber};
 
 use crate::name_keys::{NameKey, NameText};
 use crate::placed::Found;
@@ -104,7 +106,10 @@ struct KnownRange {
 
 impl KnownRange {
     // Which of the names of all ranges this one is, if it is one of these.
-    fn place_of(&self, name: &str) -> Option<usize> {
+    fn place_of(&self, name: &str) -> Option<usize>
+        ensures { (number : ℕ) → HasNumber self.now.range.names number → range_name self.now.range.names number ≡ chars name.now
+            → result ≡ Some (min (self.now.before + (number - self.now.range.names.first)) (2 ^ 64 - 1)) }
+    {
         let names = &self.range.names;
         let number = names.number(name)?;
         Some(
@@ -271,7 +276,9 @@ impl KnownNames {
 
     /// Whether there is room for a range that is kept as it is, if nothing is known of any of its names, and looking for that takes no
     /// longer than to put them in one by one.
-    pub(crate) fn has_room_for(&self, names: &NameRange) -> bool {
+    pub(crate) fn has_room_for(&self, names: &NameRange) -> bool
+        ensures { OnTrue result (vec_len self.now.ranges < 64) }
+    {
         names.is_hexadecimal()
             && self.ranges.len() < MOST_RANGES
             && self.names.len() <= names.count()
@@ -301,7 +308,11 @@ impl KnownNames {
     }
 
     /// Makes each name of a range, of none of which anything is known, that of a symbol.
-    pub(crate) fn put_range(&mut self, range: EndedRange) -> Result<(), AllocError> {
+    pub(crate) fn put_range(&mut self, range: EndedRange) -> Result<(), AllocError>
+        ensures ok { OnOk result (self.new.in_ranges ≡ min (self.old.in_ranges + (range.names.last - range.names.first + 1)) (2 ^ 64 - 1)) }
+        ensures one { OnOk result (vec_len self.new.ranges ≡ vec_len self.old.ranges + 1) }
+        ensures err { OnErr result (self.new.ranges.items ≡ self.old.ranges.items) }
+    {
         let at = self.count_up_to(range.first.get());
         let count = range.names.count();
         let before = self.in_ranges;

@@ -36,6 +36,6 @@ pub use source_ids::SourceIds;
 pub use source_statements::{DeclaredRange, SourceStatement, lose_statement, proper_line};
 pub use table_meanings::TableMeanings;
 pub use weights::{
-    LastNames, PlacedLookUp, TableLookUp, TailoredLookUp, WeightLookUp, without_symbol_weights,
+    LastNames, PlacedLookUp, TailoredLookUp, WeightLookUp, without_symbol_weights,
     without_weights_of_symbol,
 };

@@ -41,11 +41,6 @@ impl<'t> TableMeanings<'t> {
         self.names.is_symbol(Some(self.table), id)
     }
 
-    /// Whether the table places an identifier.
-    pub fn table_places(&self, id: &Id) -> bool {
-        self.table.entry(id).is_some()
-    }
-
     /// What an identifier stands for: itself, or what its name means.
     pub fn resolved(&self, id: Id) -> Result<Id, AllocError> {
         self.names.resolved(Some(self.table), id)

@@ -61,54 +61,6 @@ impl WeightLookUp<'_> {
 
 /// What weights are looked up in, over a table that is tailored.
 #[derive(Clone, Copy)]
-pub struct TableLookUp<'a, 't> {
-    /// What names mean.
-    pub meanings: &'a TableMeanings<'t>,
-    /// What is placed beside what the table places.
-    pub placed: &'a IdSet,
-    /// How many weights an entry may have.
-    pub levels: usize,
-    /// Where weights take memory.
-    pub alloc: Global,
-}
-
-impl TableLookUp<'_, '_> {
-    /// An order line whose weights name what is placed, and no more than there are levels.
-    pub fn line(
-        &self,
-        place: SourcePlace,
-        line: OrderLine,
-        report: &mut Report,
-    ) -> Result<OrderLine, SourceFault> {
-        self.look_up().line(place, line, report)
-    }
-
-    /// Whether an identifier is placed.
-    pub fn is_placed(&self, id: &Id) -> bool {
-        self.look_up().standing.is_placed(id)
-    }
-
-    /// Whether all that weights name is placed, and stands for nothing else.
-    pub fn all_stay(&self, weights: &[Weight]) -> bool {
-        self.look_up().all_stay(weights)
-    }
-
-    // The same, over the table.
-    fn look_up(&self) -> LookUp<InSet<'_, IdSet>> {
-        LookUp {
-            standing: InSet {
-                names: self.meanings.names(),
-                table: Some(self.meanings.table()),
-                placed: self.placed,
-            },
-            levels: self.levels,
-            alloc: self.alloc,
-        }
-    }
-}
-
-/// What weights are looked up in, over a table that is tailored, where what is placed beside what it places is a set of a source.
-#[derive(Clone, Copy)]
 pub struct TailoredLookUp<'a, 't> {
     /// What names mean.
     pub meanings: &'a TableMeanings<'t>,
