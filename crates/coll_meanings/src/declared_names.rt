@@ -9,9 +9,15 @@
 //! the table has too from its first such line on. So a source of a few lines costs what these lines take, however much the table has.
 //! The strings of its elements, which it can't be asked for, are kept where the source declares an element. The table stands beside
 //! the names and not in them, so that meanings over none have nothing of a table.
+//!
+//! What an order line names and is no name can't be declared. It is kept apart, so that it is found again where it is placed twice.
 
 use crate::known_names::{Alike, EndedRange, KnownNames, Meaning, NameGuess, Taken};
+use crate::name_keys::{NameKey, NameText};
 use crate::placed::Found;
+use crate::table_names::{
+    is_symbol_of, is_symbol_of_table, meant_by_table, own_id_of_second, own_name, own_of_second,
+};
 use crate::{DeclaredRange, SourceStatement};
 use coll_lex::{TextBuf, is_name};
 use coll_lookups::{HashKeys, WordKeys};
@@ -23,7 +29,7 @@ use coll_sources::{
 use coll_syntax::{Id, MOST_ELEMENT_CHARS, OrderLine, Statement};
 use coll_table::Table;
 use coll_texts::LoadCause;
-use indexmap::IndexMap;
+use indexmap::{IndexMap, IndexSet};
 use std::alloc::{AllocError, Global};
 
 /// All names that are declared. Of a name that isn't known here, the table is asked that is handed in, if there is one.
@@ -31,6 +37,8 @@ use std::alloc::{AllocError, Global};
 pub(crate) struct DeclaredNames {
     // What is known here.
     names: KnownNames,
+    // What an order line names and is no name.
+    no_names: IndexSet<NameKey, WordKeys>,
     // The name of the element of each string.
     strings: IndexMap<String, TextBuf, WordKeys>,
     // Whether the strings of the table are still to be kept.
@@ -48,6 +56,7 @@ impl DeclaredNames {
     pub(crate) fn new(alloc: Global, keys: HashKeys, keeps_ranges: bool) -> DeclaredNames {
         DeclaredNames {
             names: KnownNames::new(alloc, keys),
+            no_names: IndexSet::with_hasher(alloc, WordKeys::new(keys)),
             strings: IndexMap::with_hasher(alloc, WordKeys::new(keys)),
             wants_strings: true,
             declared: Vec::new(alloc),
@@ -102,7 +111,7 @@ impl DeclaredNames {
     pub(crate) fn found(&self, id: &Id) -> Found {
         match id {
             Id::Char(c) => Found::Char(*c),
-            Id::Named(name) => self.names.found(name.get()),
+            Id::Named(name) => self.or_no_name(name.get(), self.names.found(name.get())),
             Id::Undefined => Found::Undefined,
         }
     }
@@ -111,8 +120,22 @@ impl DeclaredNames {
     /// then.
     pub(crate) fn found_behind(&self, id: &Id, guess: &mut NameGuess) -> Found {
         match id {
-            Id::Named(name) => self.names.found_behind(name.get(), guess),
+            Id::Named(name) => {
+                let found = self.names.found_behind(name.get(), guess);
+                self.or_no_name(name.get(), found)
+            }
             _ => self.found(id),
+        }
+    }
+
+    // What is found of a name, of which this is found among those that are declared.
+    fn or_no_name(&self, name: &str, found: Found) -> Found {
+        match found {
+            Found::Unknown => match self.no_names.get_index_of(NameText { text: name }) {
+                Some(number) => Found::NoName(number),
+                None => Found::Unknown,
+            },
+            found => found,
         }
     }
 
@@ -238,7 +261,11 @@ impl DeclaredNames {
             return Ok(());
         }
         report.count(Adjustment::UndeclaredDeclared, place)?;
-        self.symbol(table, place, name, report)
+        self.symbol(table, place, name, report)?;
+        if !is_name(name.get()) {
+            self.no_names.insert(NameKey::copied(name)?)?;
+        }
+        Ok(())
     }
 
     // Whether a name is declared.
@@ -271,11 +298,20 @@ impl DeclaredNames {
         name: &TextBuf,
         report: &mut Report,
     ) -> Result<(), SourceFault> {
-        if let Some(taken) = self.names.mean_symbol(name)? {
-            return tell_taken(report, place, name, taken, Alike::IfSymbol);
+        let copy = name.try_copy()?;
+        match self.names.mean_symbol(name) {
+            Ok(None) => Ok(
+                self.declared.push(SourceStatement {
+                    place,
+                    statement: Statement::Symbol(copy),
+                })?,
+            ),
+            Ok(Some(taken)) => tell_symbol_taken(report, place, copy, taken),
+            Err(error) => {
+                drop(copy);
+                Err(SourceFault::from(error))
+            }
         }
-        let statement = Statement::Symbol(name.try_copy()?);
-        Ok(self.declared.push(SourceStatement { place, statement })?)
     }
 
     // Declares each symbol of a range.
@@ -321,15 +357,29 @@ impl DeclaredNames {
     fn keep_range(&mut self, place: SourcePlace, range: EndedRange) -> Result<(), AllocError> {
         match range.names.try_copy() {
             Ok(names) => {
-                self.ranges.push(DeclaredRange {
-                    place,
-                    names,
-                    before: self.declared.len(),
-                })?;
-                self.names.put_range(range)
+                let before = self.declared.len();
+                self.put_range(
+                    range,
+                    DeclaredRange {
+                        place,
+                        names,
+                        before,
+                    },
+                )
             }
             Err(error) => {
                 drop(range);
+                Err(error)
+            }
+        }
+    }
+
+    // Knows the names of a range, and puts it behind all others.
+    fn put_range(&mut self, range: EndedRange, declared: DeclaredRange) -> Result<(), AllocError> {
+        match self.names.put_range(range) {
+            Ok(()) => Ok(self.ranges.push(declared)?),
+            Err(error) => {
+                drop(declared);
                 Err(error)
             }
         }
@@ -420,11 +470,11 @@ impl DeclaredNames {
         if !self.wants_strings {
             return Ok(());
         }
-        self.wants_strings = false;
-        match table {
-            Some(table) => self.know_all_strings(table),
-            None => Ok(()),
+        if let Some(table) = table {
+            self.know_all_strings(table)?;
         }
+        self.wants_strings = false;
+        Ok(())
     }
 
     // Keeps the strings of the elements of a table.
@@ -632,77 +682,6 @@ fn ended_range(alloc: Global, names: &NameRange) -> Result<EndedRange, AllocErro
     })
 }
 
-// The own name of a name that the table declares.
-fn own_name<'t>(table: Option<&'t Table>, name: &str) -> Option<&'t str> {
-    match table {
-        Some(table) => table.resolve(name),
-        None => None,
-    }
-}
-
-// The name of the symbol of a second name of the table.
-fn own_of_second<'t>(table: Option<&'t Table>, name: &str) -> Option<&'t str> {
-    match own_name(table, name) {
-        Some(own) if own != name => Some(own),
-        _ => None,
-    }
-}
-
-// The symbol of a second name that the table declares, in new memory.
-fn own_id_of_second(
-    alloc: Global,
-    table: Option<&Table>,
-    name: &str,
-) -> Result<Option<Id>, AllocError> {
-    match own_of_second(table, name) {
-        Some(own) => Ok(Some(Id::Named(TextBuf::copied(alloc, own)?))),
-        None => Ok(None),
-    }
-}
-
-// Whether an identifier is that of a symbol of the table.
-fn is_symbol_of(table: Option<&Table>, id: &Id) -> bool {
-    match table {
-        Some(table) => table.is_symbol(id),
-        None => false,
-    }
-}
-
-// Whether a name is that of a symbol of the table.
-fn is_symbol_of_table(table: Option<&Table>, name: &TextBuf) -> Result<bool, AllocError> {
-    if table.is_none() {
-        return Ok(false);
-    }
-    let id = Id::Named(name.try_copy()?);
-    let is_symbol = is_symbol_of(table, &id);
-    drop(id);
-    Ok(is_symbol)
-}
-
-// What a name means in the table, if it is declared there.
-fn meant_by_table(
-    alloc: Global,
-    table: Option<&Table>,
-    name: &TextBuf,
-) -> Result<Option<Meaning>, AllocError> {
-    if own_name(table, name.get()).is_none() {
-        return Ok(None);
-    }
-    match own_id_of_second(alloc, table, name.get())? {
-        Some(own) => Ok(Some(Meaning::Other(own))),
-        None => Ok(Some(own_meaning(table, name)?)),
-    }
-}
-
-// What an own name of the table means.
-fn own_meaning(table: Option<&Table>, name: &TextBuf) -> Result<Meaning, AllocError> {
-    if is_symbol_of_table(table, name)? {
-        Ok(Meaning::Symbol)
-    } else {
-        Ok(Meaning::Element)
-    }
-}
-
 // What a meaning stands for, in new memory, where that is something else.
 fn copied_other(meaning: &Meaning) -> Result<Option<Id>, AllocError> {
     match meaning {
@@ -727,7 +706,19 @@ fn second_name(name: &TextBuf, symbol: &TextBuf) -> Result<Statement, AllocError
     })
 }
 
-// Tells that a declaration is left out, since this has declared its name: it is lost, unless the table that is tailored has, and alike.
+// What kind of loss it is that a declaration is left out, since this has declared its name; none where the table that is tailored has, and
+// alike.
+fn loss_of(taken: Taken, alike: Alike) -> Option<Adjustment> {
+    if !taken.by_table {
+        return Some(Adjustment::Dropped);
+    }
+    if alike.is_told_by(taken) {
+        return None;
+    }
+    Some(Adjustment::DeclaredAlready)
+}
+
+// Tells that a declaration is left out, since this has declared its name.
 fn tell_taken(
     report: &mut Report,
     place: SourcePlace,
@@ -735,14 +726,26 @@ fn tell_taken(
     taken: Taken,
     alike: Alike,
 ) -> Result<(), SourceFault> {
-    if !taken.by_table {
-        return lose(report, Adjustment::Dropped, place, name);
+    match loss_of(taken, alike) {
+        Some(adjustment) => lose(report, adjustment, place, name),
+        None => Ok(report.count(Adjustment::DeclaredAlready, place)?),
     }
-    if !alike.is_told_by(taken) {
-        return lose(report, Adjustment::DeclaredAlready, place, name);
+}
+
+// Tells that the declaration of a symbol of this name is left out, since this has declared it.
+fn tell_symbol_taken(
+    report: &mut Report,
+    place: SourcePlace,
+    name: TextBuf,
+    taken: Taken,
+) -> Result<(), SourceFault> {
+    match loss_of(taken, Alike::IfSymbol) {
+        Some(adjustment) => report.lose(adjustment, place, Lost::Id(Id::Named(name))),
+        None => {
+            drop(name);
+            Ok(report.count(Adjustment::DeclaredAlready, place)?)
+        }
     }
-    report.count(Adjustment::DeclaredAlready, place)?;
-    Ok(())
 }
 
 // Tells that a declaration is left out.

@@ -8,7 +8,7 @@
 //! - `source_statements`: what is made of the lines of a source, with its place (`LeftOut`);
 //! - `name_keys` and `known_names`: what is known of each name, found by hash or at a guess (`NameKeys`);
 //! - `declared_names`: what each name of a source means, and what is declared; `meanings`, over no table, and `table_meanings`, over one
-//!   that is tailored;
+//!   that is tailored, in which `table_names` asks for a name;
 //! - `placed`: what an order places, by what was found of it, and `source_ids`: sets of identifiers, both with characters in `char_sets`;
 //! - `ellipses`, with `order_lines`: the characters between two order lines;
 //! - `weights`: weights by what is placed.
@@ -25,6 +25,7 @@ mod placed;
 mod source_ids;
 mod source_statements;
 mod table_meanings;
+mod table_names;
 mod weights;
 
 pub use ellipses::{Ellipses, Run};

@@ -21,6 +21,8 @@ pub enum Found {
     Element(usize),
     /// It is a name that stands for something else, which has this number.
     Second(usize),
+    /// It is no name, can't be declared, and has been named by an order line. It has this number among such.
+    NoName(usize),
     /// It is a name that isn't declared.
     Unknown,
 }
@@ -30,6 +32,8 @@ pub enum Found {
 pub struct Placed {
     // Whether a name is placed, by its number. One of a larger number isn't.
     names: Vec<bool>,
+    // The same of what is no name.
+    no_names: Vec<bool>,
     chars: CharSet,
     undefined: bool,
 }
@@ -40,6 +44,7 @@ impl Placed {
         let _ = keys;
         Placed {
             names: Vec::new(alloc),
+            no_names: Vec::new(alloc),
             chars: CharSet::new(alloc),
             undefined: false,
         }
@@ -50,21 +55,11 @@ impl Placed {
         match found {
             Found::Char(c) => self.chars.put(c),
             Found::Undefined => Ok(!std::mem::replace(&mut self.undefined, true)),
-            Found::Symbol(number) => self.put_name(number),
-            Found::Element(number) => self.put_name(number),
-            Found::Second(number) => self.put_name(number),
+            Found::Symbol(number) => put_number(&mut self.names, number),
+            Found::Element(number) => put_number(&mut self.names, number),
+            Found::Second(number) => put_number(&mut self.names, number),
+            Found::NoName(number) => put_number(&mut self.no_names, number),
             Found::Unknown => Ok(true),
-        }
-    }
-
-    // Puts in the name of a number, and answers whether it wasn't there.
-    fn put_name(&mut self, number: usize) -> Result<bool, AllocError> {
-        for _ in self.names.len()..=number {
-            self.names.push(false)?;
-        }
-        match self.names.get_mut(number) {
-            Some(placed) => Ok(!std::mem::replace(placed, true)),
-            None => Ok(true),
         }
     }
 
@@ -73,15 +68,27 @@ impl Placed {
         match found {
             Found::Char(c) => self.chars.contains(c),
             Found::Undefined => self.undefined,
-            Found::Symbol(number) => self.has_name(number),
-            Found::Element(number) => self.has_name(number),
-            Found::Second(number) => self.has_name(number),
+            Found::Symbol(number) => has_number(&self.names, number),
+            Found::Element(number) => has_number(&self.names, number),
+            Found::Second(number) => has_number(&self.names, number),
+            Found::NoName(number) => has_number(&self.no_names, number),
             Found::Unknown => false,
         }
     }
+}
 
-    // Whether the name of a number is there.
-    fn has_name(&self, number: usize) -> bool {
-        self.names.get(number).copied().unwrap_or(false)
+// Puts in a number, and answers whether it wasn't there.
+fn put_number(placed: &mut Vec<bool>, number: usize) -> Result<bool, AllocError> {
+    for _ in placed.len()..=number {
+        placed.push(false)?;
     }
+    match placed.get_mut(number) {
+        Some(is_placed) => Ok(!std::mem::replace(is_placed, true)),
+        None => Ok(true),
+    }
+}
+
+// Whether a number is there.
+fn has_number(placed: &[bool], number: usize) -> bool {
+    placed.get(number).copied().unwrap_or(false)
 }
