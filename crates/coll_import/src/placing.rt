@@ -208,8 +208,8 @@ impl Placing {
         }
     }
 
-    // What is found of an identifier, of which this was found, once it is declared: as a symbol, if it is a name that isn't yet. An order
-    // is open from now on.
+    // What is found of an identifier, of which this was found, once it is declared: as a symbol, if it is a name that isn't yet; what is no
+    // name never is. An order is open from now on.
     fn declared(
         &mut self,
         place: SourcePlace,
@@ -222,7 +222,7 @@ impl Placing {
             self.open = true;
         }
         match found {
-            Found::Unknown => {
+            Found::Unknown | Found::NoName(_) => {
                 self.meanings.declare_placed(place, id, report)?;
                 Ok(self.meanings.found(id))
             }
