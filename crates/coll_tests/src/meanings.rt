@@ -1,35 +1,49 @@
-//! Tests of `coll_meanings`: names mean the same over a table that is asked, and over a copy of what it declares.
+//! Tests of `coll_meanings`: names, weights and what is placed are what the plain form makes of them, which keeps each name by itself.
 //!
-//! Sources of two declarations are taken both ways, and all that is told of each is written as a text.
+//! The plain form stands in `plain_meanings` and `plain_weights`. The forms of `coll_meanings` are names one by one, ranges that are kept
+//! as they are, and a table that is asked (`forms`). All take the same lines, and all that is told of each is written as a text (`told`).
+//! Lines are made (`made_sources`), on both sides of each limit that a form has: 64 ranges, names of 16 bytes, as many declarations as a
+//! table may have, and the first and the last name of a range.
 
-use crate::assertions::assert_text;
+mod forms;
+mod made_sources;
+mod plain_meanings;
+mod plain_weights;
+pub mod told;
+
+use crate::assertions::{assert_same, assert_text};
+use crate::random::Random;
 use crate::tables::examples::loaded_lines;
-use coll_lex::{Counted, TextBuf};
-use coll_meanings::{Meanings, SourceStatement, TableMeanings};
-use coll_sources::{
-    Adjustment, Loss, Lost, Report, SourceFault, SourceKind, SourceLine, SourcePlace, SourceReader,
-    all_adjustments,
-};
-use coll_syntax::Id;
+use coll_lex::{ListBuf, TextBuf};
+use coll_meanings::{Found, Placed, SourceIds};
+use coll_sources::{Said, SourceLine, SourcePlace};
+use coll_syntax::{Id, OrderLine, Weight};
 use coll_table::{HashKeys, Table};
-use coll_texts::{Piece, write_pieces, write_statement};
+use forms::{ByName, ByNumber, Plain, Tailored};
+use made_sources::{Made, said};
 use std::alloc::{AllocError, Global};
 use std::process::Abort;
+use told::told;
 
 // The table that is tailored.
 const TABLE: &[&str] = &[
     "LC_COLLATE",
     "collating-symbol <S1>",
+    "collating-symbol <S10>",
     "collating-symbol <a-symbol-of-more-than-sixteen-bytes>",
     "collating-element <E> from \"ab\"",
     "symbol-equivalence <T> <S1>",
     "symbol-equivalence <U> <T>",
     "order_start forward",
     "<S1>",
+    "<S10>",
     "<E>",
     "order_end",
     "END LC_COLLATE",
 ];
+
+// What it places.
+const PLACED: &[&str] = &["S1", "S10", "E"];
 
 // What a source declares: of names that the table has, alike and otherwise, and of new ones.
 const DECLARED: &[&str] = &[
@@ -66,208 +80,66 @@ const NAMES: &[&str] = &[
     "U",
     "N",
     "M",
+    "no name",
+    "",
 ];
-
-// Where a name that isn't declared is placed.
-const PLACE: SourcePlace = SourcePlace { text: 0, line: 9 };
-
-// What both kinds of meanings answer.
-trait Means: Drop {
-    fn symbol(&self, id: &Id) -> bool;
-
-    fn stands_for(&self, id: Id) -> Result<Id, AllocError>;
-
-    fn take(&mut self, lines: &[SourceLine], report: &mut Report) -> Result<(), SourceFault>;
-
-    fn place(&mut self, id: &Id, report: &mut Report) -> Result<(), SourceFault>;
-
-    fn declared(&mut self) -> Vec<SourceStatement>;
-}
-
-impl Means for Meanings {
-    fn symbol(&self, id: &Id) -> bool {
-        self.is_symbol(id)
-    }
-
-    fn stands_for(&self, id: Id) -> Result<Id, AllocError> {
-        self.resolved(id)
-    }
-
-    fn take(&mut self, lines: &[SourceLine], report: &mut Report) -> Result<(), SourceFault> {
-        self.take_all(lines, report)
-    }
-
-    fn place(&mut self, id: &Id, report: &mut Report) -> Result<(), SourceFault> {
-        self.declare_placed(PLACE, id, report)
-    }
-
-    fn declared(&mut self) -> Vec<SourceStatement> {
-        self.take_declared()
-    }
-}
-
-impl Means for TableMeanings<'_> {
-    fn symbol(&self, id: &Id) -> bool {
-        self.is_symbol(id)
-    }
-
-    fn stands_for(&self, id: Id) -> Result<Id, AllocError> {
-        self.resolved(id)
-    }
-
-    fn take(&mut self, lines: &[SourceLine], report: &mut Report) -> Result<(), SourceFault> {
-        self.take_all(lines, report)
-    }
-
-    fn place(&mut self, id: &Id, report: &mut Report) -> Result<(), SourceFault> {
-        self.declare_placed(PLACE, id, report)
-    }
-
-    fn declared(&mut self) -> Vec<SourceStatement> {
-        self.take_declared()
-    }
-}
-
-// Puts pieces behind a text.
-fn push(rt: &impl Abort, text: &mut Vec<u8>, pieces: &[Piece<'_>]) {
-    write_pieces(&mut Counted::new(text), pieces).expect(rt, "pieces");
-}
 
 // An identifier of this name.
 fn named(rt: &impl Abort, alloc: Global, name: &str) -> Id {
     Id::Named(TextBuf::copied(alloc, name).expect(rt, "a name"))
 }
 
-// Tells what a name means.
-fn tell_name<M: Means>(
-    rt: &impl Abort,
-    alloc: Global,
-    meanings: &M,
-    name: &str,
-    text: &mut Vec<u8>,
-) {
-    let id = named(rt, alloc, name);
-    let kind = u64::from(meanings.symbol(&id));
-    let other = meanings.stands_for(id).expect(rt, "an identifier");
-    push(rt, text, &[Piece::Symbol(name)]);
-    push(rt, text, &[Piece::Number(kind)]);
-    push(rt, text, &[Piece::Id(&other)]);
-    push(rt, text, &[Piece::Bytes(b"\n")]);
-    drop(other);
+// Identifiers of these names.
+fn all_named(rt: &impl Abort, alloc: Global, names: &[&str]) -> Vec<Id> {
+    let mut ids = Vec::new(alloc);
+    for name in names {
+        ids.push(named(rt, alloc, name)).expect(rt, "names");
+    }
+    ids
 }
 
-// Tells what all names mean.
-fn tell_names<M: Means>(rt: &impl Abort, alloc: Global, meanings: &M, text: &mut Vec<u8>) {
-    for name in NAMES {
-        tell_name(rt, alloc, meanings, name, text);
+// Asserts that the same is told of these lines over no table, in each form.
+fn assert_over_none(rt: &impl Abort, alloc: Global, lines: &[SourceLine], ids: &[Id]) {
+    let wanted = told(rt, alloc, Plain::new(alloc), lines, ids);
+    let by_name = told(rt, alloc, ByName::new(alloc), lines, ids);
+    assert_text(rt, alloc, &by_name, &wanted);
+    drop(by_name);
+    let by_number = told(rt, alloc, ByNumber::new(alloc), lines, ids);
+    assert_text(rt, alloc, &by_number, &wanted);
+    drop(by_number);
+    drop(wanted);
+}
+
+// A table, what it places, and the names that are looked at.
+#[derive(Drop)]
+struct Tailoring {
+    table: Table,
+    placed: Vec<Id>,
+    names: Vec<Id>,
+}
+
+// That of these tests.
+fn this_tailoring(rt: &impl Abort, alloc: Global) -> Tailoring {
+    Tailoring {
+        table: loaded_lines(alloc, TABLE).expect(rt, "a table"),
+        placed: all_named(rt, alloc, PLACED),
+        names: all_named(rt, alloc, NAMES),
     }
 }
 
-// Places a name.
-fn place<M: Means>(
-    rt: &impl Abort,
-    alloc: Global,
-    meanings: &mut M,
-    name: &str,
-    report: &mut Report,
-) {
-    let id = named(rt, alloc, name);
-    meanings.place(&id, report).expect(rt, "a placed name");
-    drop(id);
-}
-
-// Places all names.
-fn place_all<M: Means>(rt: &impl Abort, alloc: Global, meanings: &mut M, report: &mut Report) {
-    for name in NAMES {
-        place(rt, alloc, meanings, name, report);
-    }
-}
-
-// Tells what is declared.
-fn tell_declared(rt: &impl Abort, declared: &[SourceStatement], text: &mut Vec<u8>) {
-    for made in declared {
-        push(
-            rt,
-            text,
-            &[
-                Piece::Number(u64::from(made.place.line)),
-                Piece::Bytes(b" "),
-            ],
-        );
-        write_statement(&mut Counted::new(&mut *text), &made.statement).expect(rt, "a statement");
-    }
-}
-
-// Tells what was lost.
-fn tell_losses(rt: &impl Abort, losses: &[Loss], text: &mut Vec<u8>) {
-    for loss in losses {
-        let what = match &loss.what {
-            Lost::Id(id) => Piece::Id(id),
-            Lost::Word(word) => Piece::Bytes(word.get().as_bytes()),
-        };
-        let line = Piece::Number(u64::from(loss.place.line));
-        push(
-            rt,
-            text,
-            &[
-                line,
-                Piece::Bytes(loss.adjustment.name().as_bytes()),
-                what,
-                Piece::Bytes(b"\n"),
-            ],
-        );
-    }
-}
-
-// Tells how often a change was made, if it was.
-fn tell_tally(rt: &impl Abort, report: &Report, adjustment: Adjustment, text: &mut Vec<u8>) {
-    if let Some(tally) = report.tally(adjustment) {
-        let line = Piece::Number(u64::from(tally.first.line));
-        let count = Piece::Number(u64::from(tally.count));
-        push(
-            rt,
-            text,
-            &[
-                Piece::Bytes(adjustment.name().as_bytes()),
-                line,
-                Piece::Bytes(b" "),
-                count,
-                Piece::Bytes(b"\n"),
-            ],
-        );
-    }
-}
-
-// Tells all changes.
-fn tell_tallies(rt: &impl Abort, report: &Report, text: &mut Vec<u8>) {
-    for adjustment in all_adjustments() {
-        tell_tally(rt, report, adjustment, text);
-    }
-}
-
-// Tells all that meanings make of these lines.
-fn told<M: Means>(
-    rt: &impl Abort,
-    alloc: Global,
-    mut meanings: M,
-    lines: &[SourceLine],
-) -> Vec<u8> {
-    let mut text = Vec::new(alloc);
-    let mut report = Report::new(alloc);
-    meanings
-        .take(lines, &mut report)
-        .expect(rt, "lines that are taken");
-    tell_names(rt, alloc, &meanings, &mut text);
-    place_all(rt, alloc, &mut meanings, &mut report);
-    tell_names(rt, alloc, &meanings, &mut text);
-    let declared = meanings.declared();
-    tell_declared(rt, &declared, &mut text);
-    tell_losses(rt, report.losses(), &mut text);
-    tell_tallies(rt, &report, &mut text);
-    drop(declared);
-    drop(report);
-    drop(meanings);
-    text
+// Asserts that the same is told of these lines over a table, in each form.
+fn assert_over(rt: &impl Abort, alloc: Global, over: &Tailoring, lines: &[SourceLine]) {
+    let plain = Plain::over(alloc, &over.table, &over.placed).expect(rt, "a plain copy");
+    let wanted = told(rt, alloc, plain, lines, &over.names);
+    let copy = ByName::over(alloc, &over.table, &over.placed).expect(rt, "a copy");
+    let by_name = told(rt, alloc, copy, lines, &over.names);
+    assert_text(rt, alloc, &by_name, &wanted);
+    drop(by_name);
+    let tailored = Tailored::over(alloc, &over.table);
+    let asked = told(rt, alloc, tailored, lines, &over.names);
+    assert_text(rt, alloc, &asked, &wanted);
+    drop(asked);
+    drop(wanted);
 }
 
 // The text of a source of these declarations.
@@ -280,56 +152,272 @@ fn source(alloc: Global, first: &str, second: &str) -> Result<Vec<u8>, AllocErro
     Ok(text)
 }
 
-// What the text of a source says.
-fn said(rt: &impl Abort, alloc: Global, text: &[u8]) -> Vec<SourceLine> {
-    let mut reader = SourceReader::new(
-        alloc,
-        HashKeys::zeros(),
-        SourceKind::Tailoring,
-        "source",
-        &[],
-    )
-    .expect(rt, "a reader");
-    reader
-        .take_text(&mut Counted::new(text))
-        .expect(rt, "a source");
-    let (lines, report) = reader.into_parts();
-    drop(report);
-    lines
-}
-
-// Asserts that the same is told of a source of these declarations, over the table and over its copy.
-fn assert_alike(rt: &impl Abort, alloc: Global, table: &Table, first: &str, second: &str) {
+// Asserts that the same is told of a source of these declarations.
+fn assert_alike(rt: &impl Abort, alloc: Global, over: &Tailoring, first: &str, second: &str) {
     let text = source(alloc, first, second).expect(rt, "a text");
     let lines = said(rt, alloc, &text);
-    let keys = HashKeys::zeros();
-    let copied = Meanings::of_table(alloc, keys, table).expect(rt, "a copy");
-    let wanted = told(rt, alloc, copied, &lines);
-    let given = told(rt, alloc, TableMeanings::new(alloc, keys, table), &lines);
-    assert_text(rt, alloc, &given, &wanted);
-    drop(given);
-    drop(wanted);
-    drop(lines);
     drop(text);
+    assert_over_none(rt, alloc, &lines, &over.names);
+    assert_over(rt, alloc, over, &lines);
+    drop(lines);
 }
 
 // The same of all sources that begin with a declaration.
-fn assert_all_behind(rt: &impl Abort, alloc: Global, table: &Table, first: &str) {
+fn assert_all_behind(rt: &impl Abort, alloc: Global, over: &Tailoring, first: &str) {
     for second in DECLARED {
-        assert_alike(rt, alloc, table, first, second);
-    }
-}
-
-// The same of all sources.
-fn assert_all(rt: &impl Abort, alloc: Global, table: &Table) {
-    for first in DECLARED {
-        assert_all_behind(rt, alloc, table, first);
+        assert_alike(rt, alloc, over, first, second);
     }
 }
 
 #[test]
-fn names_mean_the_same_over_a_table_and_over_its_copy(rt: HostRuntime) {
-    let table = loaded_lines(rt.alloc(), TABLE).expect(&rt, "a table");
-    assert_all(&rt, rt.alloc(), &table);
-    drop(table);
+fn two_declarations_mean_what_names_kept_one_by_one_do(rt: HostRuntime) {
+    let over = this_tailoring(&rt, rt.alloc());
+    for first in DECLARED {
+        assert_all_behind(&rt, rt.alloc(), &over, first);
+    }
+    drop(over);
+}
+
+// How many sources are made.
+const SOURCES: u64 = 60;
+
+// The lines of a source that is made, of which the seed is this.
+fn made_lines(rt: &impl Abort, alloc: Global, seed: u64) -> Vec<SourceLine> {
+    let mut made = Made::new(alloc, seed);
+    made.push("LC_COLLATE\n").expect(rt, "a head");
+    made.declarations(16).expect(rt, "declarations");
+    made.orders(48).expect(rt, "order lines");
+    made.push("END LC_COLLATE\n").expect(rt, "an end");
+    let text = made.into_text();
+    let lines = said(rt, alloc, &text);
+    drop(text);
+    lines
+}
+
+// An order line of an identifier that is no name, which is its weight as well. A weight of a character names it, too.
+fn line_of_none(rt: &impl Abort, alloc: Global, id: Id) -> SourceLine {
+    let mut ids = Vec::new(alloc);
+    ids.push(named(rt, alloc, "no name")).expect(rt, "a name");
+    let mut weights = Vec::new(alloc);
+    weights
+        .push(Weight::Names(ListBuf::new(ids)))
+        .expect(rt, "a weight");
+    SourceLine {
+        place: SourcePlace { text: 0, line: 1 },
+        said: Said::Order(OrderLine {
+            id,
+            weights: Some(ListBuf::new(weights)),
+        }),
+    }
+}
+
+// Puts order lines of no names behind others.
+fn push_none(rt: &impl Abort, alloc: Global, lines: &mut Vec<SourceLine>) {
+    for name in ["no name", "", "no name", "N"] {
+        let line = line_of_none(rt, alloc, named(rt, alloc, name));
+        lines.push(line).expect(rt, "a line");
+    }
+    let line = line_of_none(rt, alloc, Id::Char('x'));
+    lines.push(line).expect(rt, "a line");
+}
+
+// Asserts that the same is told of the source that is made of a seed.
+fn assert_made(rt: &impl Abort, alloc: Global, over: &Tailoring, seed: u64) {
+    let mut lines = made_lines(rt, alloc, seed);
+    if seed % 4 == 0 {
+        push_none(rt, alloc, &mut lines);
+    }
+    assert_over_none(rt, alloc, &lines, &over.names);
+    assert_over(rt, alloc, over, &lines);
+    drop(lines);
+}
+
+#[test]
+fn made_sources_mean_what_names_kept_one_by_one_do(rt: HostRuntime) {
+    let over = this_tailoring(&rt, rt.alloc());
+    for seed in 0..SOURCES {
+        assert_made(&rt, rt.alloc(), &over, seed);
+    }
+    drop(over);
+}
+
+// The lines of a source of so many ranges that are far from each other.
+fn far_lines(rt: &impl Abort, alloc: Global, count: usize) -> Vec<SourceLine> {
+    let mut made = Made::new(alloc, count as u64);
+    let mut orders = Made::new(alloc, 0);
+    made.push("LC_COLLATE\n").expect(rt, "a head");
+    made.far_ranges(count, &mut orders).expect(rt, "ranges");
+    made.declarations(4).expect(rt, "declarations");
+    let orders = orders.into_text();
+    made.push_bytes(&orders).expect(rt, "order lines");
+    drop(orders);
+    made.push("END LC_COLLATE\n").expect(rt, "an end");
+    let text = made.into_text();
+    let lines = said(rt, alloc, &text);
+    drop(text);
+    lines
+}
+
+#[test]
+fn as_many_ranges_as_are_kept_and_more_mean_what_names_kept_one_by_one_do(rt: HostRuntime) {
+    for count in 62usize..=67 {
+        let lines = far_lines(&rt, rt.alloc(), count);
+        assert_over_none(&rt, rt.alloc(), &lines, &[]);
+        drop(lines);
+    }
+}
+
+// The names that are looked at where a source declares as much as a table may have, or one more.
+const OF_FULL: &[&str] = &[
+    "N", "M", "S00000", "S1FFFF", "S3FFFE", "S3FFFF", "T00001", "T1FFFF",
+];
+
+// Asserts that the same is told of a source with these declarations, with its ranges kept as they are.
+fn assert_full(rt: &impl Abort, alloc: Global, declared: &str) {
+    let ids = all_named(rt, alloc, OF_FULL);
+    let text = source(alloc, declared, "").expect(rt, "a text");
+    let lines = said(rt, alloc, &text);
+    drop(text);
+    let wanted = told(rt, alloc, Plain::new(alloc), &lines, &ids);
+    let given = told(rt, alloc, ByNumber::new(alloc), &lines, &ids);
+    assert_text(rt, alloc, &given, &wanted);
+    drop(given);
+    drop(wanted);
+    drop(lines);
+    drop(ids);
+}
+
+// 262,143 names in a range, one that fits in behind them, and one that doesn't.
+const FULL_BY_A_NAME: &str =
+    "collating-symbol <S00000>..<S3FFFE>\n<N>\n<S00000>\n<S3FFFE>\n<S3FFFF>\n<M>\n";
+
+#[test]
+fn a_name_more_than_a_table_may_have_is_refused_as_names_kept_one_by_one_are(rt: HostRuntime) {
+    assert_full(&rt, rt.alloc(), FULL_BY_A_NAME);
+}
+
+// 262,144 names, most of them in two ranges, one that is declared already, and one more.
+const FULL_BY_A_RANGE: &str = "collating-symbol <S00000>..<S1FFFF>\ncollating-symbol <N>\n\
+    collating-symbol <T00001>..<T1FFFF>\ncollating-symbol <T1FFFF>\ncollating-symbol <M>\n<T1FFFF>\n";
+
+#[test]
+fn ranges_of_all_names_that_a_table_may_have_mean_what_names_kept_one_by_one_do(rt: HostRuntime) {
+    assert_full(&rt, rt.alloc(), FULL_BY_A_RANGE);
+}
+
+// A name, and 262,144 in a range, of which the last one is too many.
+const TOO_FULL: &str =
+    "collating-symbol <N>\ncollating-symbol <S00000>..<S3FFFF>\ncollating-symbol <M>\n";
+
+#[test]
+fn a_range_of_a_name_too_many_is_refused_as_names_kept_one_by_one_are(rt: HostRuntime) {
+    assert_full(&rt, rt.alloc(), TOO_FULL);
+}
+
+// Characters on both sides of where a word of a set ends, and at both ends of all.
+const CHARS: &[char] = &[
+    '\0',
+    '\u{1}',
+    '\u{3e}',
+    '\u{3f}',
+    '\u{40}',
+    '\u{41}',
+    '\u{7f}',
+    '\u{80}',
+    '\u{ff}',
+    '\u{100}',
+    '\u{d7ff}',
+    '\u{e000}',
+    '\u{ffff}',
+    '\u{10000}',
+    '\u{10ffbf}',
+    '\u{10ffc0}',
+    '\u{10ffff}',
+];
+
+// Names on both sides of 16 bytes.
+const LONG_NAMES: &[&str] = &["S", "a-name-of-16-byt", "a-name-of-17-byte"];
+
+// An identifier, and whether it was put in last, or ever.
+#[derive(Drop)]
+struct Known {
+    id: Id,
+    is_there: bool,
+    was_placed: bool,
+}
+
+// One that was never put in.
+fn unknown(id: Id) -> Known {
+    Known {
+        id,
+        is_there: false,
+        was_placed: false,
+    }
+}
+
+// Identifiers of each kind, none of which was put in.
+fn all_unknown(rt: &impl Abort, alloc: Global) -> Vec<Known> {
+    let mut all = Vec::new(alloc);
+    all.push(unknown(Id::Undefined)).expect(rt, "a word");
+    for c in CHARS {
+        all.push(unknown(Id::Char(*c))).expect(rt, "a character");
+    }
+    for name in LONG_NAMES {
+        let id = named(rt, alloc, name);
+        all.push(unknown(id)).expect(rt, "a name");
+    }
+    all
+}
+
+// Puts an identifier in, where it may be.
+fn put(rt: &impl Abort, ids: &mut SourceIds, placed: &mut Placed, known: &mut Known) {
+    ids.put(&known.id).expect(rt, "an identifier");
+    if let Id::Char(c) = &known.id {
+        let is_new = placed.put(Found::Char(*c)).expect(rt, "a character");
+        assert_same(rt, *c, is_new, !known.was_placed);
+    }
+    known.is_there = true;
+    known.was_placed = true;
+}
+
+// Asserts which identifiers are there.
+fn assert_there(rt: &impl Abort, ids: &SourceIds, all: &[Known]) {
+    for known in all {
+        assert_same(rt, "is there", ids.contains(&known.id), known.is_there);
+    }
+}
+
+// Puts one of these in, or takes it out.
+fn change(
+    rt: &impl Abort,
+    ids: &mut SourceIds,
+    placed: &mut Placed,
+    random: &mut Random,
+    all: &mut [Known],
+) {
+    let at = random.below(all.len());
+    let Some(known) = all.get_mut(at) else {
+        return;
+    };
+    if random.is_so(60) {
+        put(rt, ids, placed, known);
+    } else {
+        ids.take_out(&known.id);
+        known.is_there = false;
+    }
+}
+
+#[test]
+fn sets_have_what_was_put_in_and_not_taken_out(rt: HostRuntime) {
+    let mut random = Random::new(1);
+    let mut ids = SourceIds::new(rt.alloc(), HashKeys::zeros());
+    let mut placed = Placed::new(rt.alloc(), HashKeys::zeros());
+    let mut all = all_unknown(&rt, rt.alloc());
+    for _ in 0..400 {
+        change(&rt, &mut ids, &mut placed, &mut random, &mut all);
+        assert_there(&rt, &ids, &all);
+    }
+    drop(all);
+    drop(placed);
+    drop(ids);
 }
