@@ -8,7 +8,8 @@
 //! lines, `devices` has the devices that they use, `long_texts` makes their longest texts, `random` has the numbers by which others are
 //! made, and `assertions` compares what they are given.
 //! Expected values come from POSIX.1-2017 (7.3.2), from ISO/IEC 14651 and from docs/, and never from what a program wrote.
-//! `surveys`, `order_lines` and `meanings` alone compare two forms of a thing: the fast one tells what the plain one tells.
+//! `surveys`, `order_lines`, `meanings` and `listed_words`, which is of `coll_edit`, alone compare two forms of a thing: the fast one tells
+//! what the one that reads all of it tells.
 //! What only takes a text and gives one is a run of the program, in tests/runs, unless it is a worked example.
 //! What no public call shows is proved, and has no test. The crates below have no tests of their own, since a crate with
 //! tests is proved twice.
@@ -34,6 +35,8 @@ mod imports;
 mod keys;
 #[cfg(test)]
 mod lines;
+#[cfg(test)]
+mod listed_words;
 #[cfg(test)]
 mod long_texts;
 #[cfg(test)]
