@@ -374,10 +374,18 @@ impl DeclaredNames {
         }
     }
 
-    // Knows the names of a range, and puts it behind all others.
+    // Knows the names of a range, and puts it behind all others. Where memory is refused, neither is done.
     fn put_range(&mut self, range: EndedRange, declared: DeclaredRange) -> Result<(), AllocError> {
+        if let Err(error) = self.ranges.reserve(1) {
+            drop(range);
+            drop(declared);
+            return Err(error);
+        }
         match self.names.put_range(range) {
-            Ok(()) => Ok(self.ranges.push(declared)?),
+            Ok(()) => {
+                self.ranges.push_reserved(declared);
+                Ok(())
+            }
             Err(error) => {
                 drop(declared);
                 Err(error)
