@@ -5,9 +5,10 @@
 //! the table is served by the places of the entries, which are given anew in a much shorter pass, and it looks up what the text asks
 //! for and no more. Such a look costs more by itself: where those since the last change have together more than 64 characters, and
 //! one more for each 32 entries, the ranks are made after all. What is kept is true of one table as it stands
-//! (`specs/Ranked.antt`). What changes the table goes by it, so that the places follow where that is told by the nodes that changed.
+//! (`specs/Ranked.antt`). What changes the table goes by it: the ranks are then given up, and the places handed to the session, which
+//! has them follow the change where that takes less than giving them anew, once a look asks for them.
 
-ghost use Rattle.std.specs.Prelude.{◌≡◌, ◌≢◌, ◌≤◌, ◌+◌, ◌||◌, true, false, chars, length, None, Ok, Err, IsSome, IsTrue, IfSome, IfOk, IfErr, OnOk, OnErr};
+ghost use Rattle.std.specs.Prelude.{◌≡◌, ◌≢◌, ◌≤◌, ◌+◌, ◌||◌, true, false, chars, is_some, length, None, Some, Ok, Err, IsSome, IsTrue, IfSome, IfOk, IfErr, OnOk, OnErr};
 ghost use Rattle.coll_syntax.specs.Proper.{IsProper};
 ghost use Rattle.coll_nodes.specs.TableLayout.{collation};
 ghost use Rattle.coll_key.specs.KeyLimits.{is_too_long};
@@ -22,7 +23,7 @@ ghost use Rattle.coll_history.specs.Withdrawal.{is_numbered, withdrawn};
 ghost use Rattle.coll_history.specs.declared.history_faults.BenchFault.TheVariants as bench;
 ghost use Rattle.coll_history.specs.declared.history_faults.BenchFault.TheVariants.{HistoryFull};
 ghost use Rattle.coll_history.specs.Histories.{judged, taken_back, put_again, undo_steps, redo_steps, table_now, RefusesStatement};
-ghost use Rattle.coll_bench.specs.Ranked.{AreNumbersIf, AreRanksIfAny, CanServe, IsKeptFor};
+ghost use Rattle.coll_bench.specs.Ranked.{AreRanksIfAny, CanServe, IsKeptFor};
 ghost use Rattle.coll_bench.specs.Ranked.{kept_nothing, looked_after, with_look};
 
 use coll_history::{BenchFault, Session};
@@ -41,19 +42,14 @@ const FEW_CHARACTERS: usize = 64;
 // For so many entries of the table it is one character more: it is looked up in some half of the time that their ranks take.
 const ENTRIES_A_CHARACTER: usize = 32;
 
-// For so many entries of the table one character may be looked up by way of one change that the places have followed: giving them
-// anew takes some four times as long.
-const ENTRIES_A_MOVE: usize = 8;
-
 /// The ranks of a table, if they were made, and the places of its entries.
 #[derive(Drop)]
 pub(crate) struct KeptRanks {
     // All ranks, if they were made since the last change.
     ranks: Option<Ranks>,
-    // The places of the entries as they were when these were given last. Their memory is kept over changes.
-    numbers: EntryNumbers,
-    // Whether these are the places in the table as it stands.
-    numbered: bool,
+    // The places of the entries in the table as it stands, if they were asked for since the last change. Else the session has them,
+    // with their memory.
+    places: Option<EntryNumbers>,
     // How many characters were looked up by themselves since the last change.
     looked: usize,
 }
@@ -63,23 +59,22 @@ impl Model for KeptRanks {
 
     ghost Value = { KeptValue };
 
-    ghost view = { λ k. record { ranks = k.ranks; numbers = k.numbers; numbered = k.numbered; looked = k.looked } };
+    ghost view = { λ k. record { ranks = k.ranks; places = k.places; looked = k.looked } };
 }
 
 impl KeptRanks {
     /// Nothing is kept yet. It takes no memory.
-    pub(crate) fn new(alloc: Global) -> KeptRanks
+    pub(crate) fn new() -> KeptRanks
         ensures { result ≡ kept_nothing }
     {
         KeptRanks {
             ranks: None,
-            numbers: EntryNumbers::new(alloc),
-            numbered: false,
+            places: None,
             looked: 0,
         }
     }
 
-    /// Has a session judge a statement. Where it is accepted, the ranks are given up, and the places follow it as far as that goes.
+    /// Has a session judge a statement. Where it is accepted, the ranks are given up. The session has the places.
     pub(crate) fn statement(
         &mut self,
         session: &mut Session,
@@ -96,13 +91,14 @@ impl KeptRanks {
         ensures refused { IfErr result (λ fault. RefusesStatement session.old.history statement fault) }
         ensures unchanged { OnErr result (session.new ≡ session.old) }
     {
-        let count = session.statement_followed(statement, &mut self.numbers, &mut self.numbered)?;
+        self.hand_over(session);
+        let count = session.statement(statement)?;
         keep(&mut self.ranks, None);
         self.looked = 0;
         Ok(count)
     }
 
-    /// Has a session take its last statement back. The ranks are then given up, and the places follow it as far as that goes.
+    /// Has a session take its last statement back. The ranks are then given up. The session has the places.
     pub(crate) fn undo(&mut self, session: &mut Session) -> Result<u32, BenchFault>
         requires { IsKeptFor self.old (table_now session.old.history) session.old.layout }
         ensures kept { IsKeptFor self.new (table_now session.new.history) session.new.layout }
@@ -114,13 +110,14 @@ impl KeptRanks {
         ensures refused { IfErr result (λ fault. taken_back session.old.history ≡ Err fault) }
         ensures unchanged { OnErr result (session.new ≡ session.old) }
     {
-        let count = session.undo_followed(&mut self.numbers, &mut self.numbered)?;
+        self.hand_over(session);
+        let count = session.undo()?;
         keep(&mut self.ranks, None);
         self.looked = 0;
         Ok(count)
     }
 
-    /// Has a session put a statement again. The ranks are then given up, and the places follow it as far as that goes.
+    /// Has a session put a statement again. The ranks are then given up. The session has the places.
     pub(crate) fn redo(&mut self, session: &mut Session) -> Result<u32, BenchFault>
         requires { IsKeptFor self.old (table_now session.old.history) session.old.layout }
         ensures kept { IsKeptFor self.new (table_now session.new.history) session.new.layout }
@@ -132,13 +129,14 @@ impl KeptRanks {
         ensures refused { IfErr result (λ fault. put_again session.old.history ≡ Err fault) }
         ensures unchanged { OnErr result (session.new ≡ session.old) }
     {
-        let count = session.redo_followed(&mut self.numbers, &mut self.numbered)?;
+        self.hand_over(session);
+        let count = session.redo()?;
         keep(&mut self.ranks, None);
         self.looked = 0;
         Ok(count)
     }
 
-    /// Has a session withdraw a statement. The ranks are then given up, and the places follow it as far as that goes.
+    /// Has a session withdraw a statement. The ranks are then given up. The session has the places.
     pub(crate) fn withdraw(&mut self, session: &mut Session, number: u32) -> Result<u32, BenchFault>
         requires { IsKeptFor self.old (table_now session.old.history) session.old.layout }
         ensures kept { IsKeptFor self.new (table_now session.new.history) session.new.layout }
@@ -153,7 +151,8 @@ impl KeptRanks {
         ensures unchanged { OnErr result (session.new.history ≡ session.old.history) }
         ensures layout { OnErr result (session.new.layout ≡ session.old.layout) }
     {
-        let count = session.withdraw_followed(number, &mut self.numbers, &mut self.numbered)?;
+        self.hand_over(session);
+        let count = session.withdraw(number)?;
         keep(&mut self.ranks, None);
         self.looked = 0;
         Ok(count)
@@ -166,22 +165,24 @@ impl KeptRanks {
     pub(crate) fn key(
         &mut self,
         alloc: Global,
-        table: &Table,
+        session: &mut Session,
         text: &str,
     ) -> Result<Vec<u64>, KeyFault>
-        requires { IsKeptFor self.old (collation table.now) table.now.layout }
-        ensures kept { IsKeptFor self.new (collation table.now) table.now.layout }
-        ensures spares { IsSome (with_look (collation table.now) self.old.looked (length (chars text.now))) → self.new.ranks ≡ self.old.ranks }
-        ensures looked { self.new.looked ≡ looked_after (collation table.now) self.old (length (chars text.now)) }
-        ensures ok { IfOk result (λ key. key.items ≡ key_of (collation table.now) (chars text.now)) }
-        ensures form { IfOk result (λ key. has_key_form (collation table.now).rules key.items ≡ true) }
+        requires { IsKeptFor self.old (table_now session.old.history) session.old.layout }
+        ensures kept { IsKeptFor self.new (table_now session.new.history) session.new.layout }
+        ensures session { session.new ≡ session.old }
+        ensures spares { IsSome (with_look (table_now session.old.history) self.old.looked (length (chars text.now))) → self.new.ranks ≡ self.old.ranks }
+        ensures looked { self.new.looked ≡ looked_after (table_now session.old.history) self.old (length (chars text.now)) }
+        ensures ok { IfOk result (λ key. key.items ≡ key_of (table_now session.old.history) (chars text.now)) }
+        ensures form { IfOk result (λ key. has_key_form (table_now session.old.history).rules key.items ≡ true) }
         ensures short { IfOk result (λ _. is_too_long (chars text.now) ≡ false) }
         ensures err { IfErr result (λ fault. fault ≢ OutOfMemory → is_too_long (chars text.now) ≡ true) }
     {
-        self.prepare(alloc, table, characters_in(text), 0)?;
+        self.prepare(alloc, session, characters_in(text), 0)?;
+        let table = session.table();
         match &self.ranks {
             Some(ranks) => key(alloc, table, ranks, text),
-            None => key_of_text(alloc, table, &self.numbers, text),
+            None => key_of_text(alloc, table, self.given_places(), text),
         }
     }
 
@@ -192,44 +193,90 @@ impl KeptRanks {
     pub(crate) fn compare(
         &mut self,
         alloc: Global,
-        table: &Table,
+        session: &mut Session,
         text: &str,
         other: &str,
     ) -> Result<Ordering, KeyFault>
-        requires { IsKeptFor self.old (collation table.now) table.now.layout }
-        ensures kept { IsKeptFor self.new (collation table.now) table.now.layout }
-        ensures spares { IsSome (with_look (collation table.now) self.old.looked (length (chars text.now) + length (chars other.now)))
+        requires { IsKeptFor self.old (table_now session.old.history) session.old.layout }
+        ensures kept { IsKeptFor self.new (table_now session.new.history) session.new.layout }
+        ensures session { session.new ≡ session.old }
+        ensures spares { IsSome (with_look (table_now session.old.history) self.old.looked (length (chars text.now) + length (chars other.now)))
             → self.new.ranks ≡ self.old.ranks }
-        ensures looked { self.new.looked ≡ looked_after (collation table.now) self.old (length (chars text.now) + length (chars other.now)) }
-        ensures ok { IfOk result (λ order. order ≡ order_of (collation table.now) (chars text.now) (chars other.now)) }
+        ensures looked { self.new.looked ≡ looked_after (table_now session.old.history) self.old (length (chars text.now) + length (chars other.now)) }
+        ensures ok { IfOk result (λ order. order ≡ order_of (table_now session.old.history) (chars text.now) (chars other.now)) }
         ensures short { IfOk result (λ _. (is_too_long (chars text.now) || is_too_long (chars other.now)) ≡ false) }
         ensures err { IfErr result (λ fault. fault ≢ OutOfMemory → (is_too_long (chars text.now) || is_too_long (chars other.now)) ≡ true) }
     {
-        self.prepare(alloc, table, characters_in(text), characters_in(other))?;
+        self.prepare(alloc, session, characters_in(text), characters_in(other))?;
+        let table = session.table();
         match &self.ranks {
             Some(ranks) => compare(alloc, table, ranks, text, other),
-            None => compare_texts(alloc, table, &self.numbers, text, other),
+            None => compare_texts(alloc, table, self.given_places(), text, other),
         }
     }
 
     /// Gives the entries of the table that this is kept for their places, unless these are there, and quick for so many characters.
     /// Where memory is refused there are none, and what else is kept is true of the table as well.
-    pub(crate) fn give_places(&mut self, table: &Table, characters: usize) -> Result<(), AllocError>
-        requires { IsKeptFor self.old (collation table.now) table.now.layout }
-        ensures { IsKeptFor self.new (collation table.now) table.now.layout }
+    pub(crate) fn give_places(
+        &mut self,
+        session: &mut Session,
+        characters: usize,
+    ) -> Result<(), AllocError>
+        requires { IsKeptFor self.old (table_now session.old.history) session.old.layout }
+        ensures kept { IsKeptFor self.new (table_now session.new.history) session.new.layout }
+        ensures session { session.new ≡ session.old }
+        ensures ranks { self.new.ranks ≡ self.old.ranks }
+        ensures looked { self.new.looked ≡ self.old.looked }
+        ensures ok { OnOk result (is_some self.new.places ≡ true) }
     {
-        give_numbers(table, &mut self.numbers, &mut self.numbered, characters)
+        if self.has_quick_places(session.table(), characters) {
+            return Ok(());
+        }
+        self.hand_over(session);
+        let places = session.take_places(characters)?;
+        self.places = Some(places);
+        Ok(())
     }
 
-    /// The places of the entries, where they are those of the table as it stands.
+    /// The places of the entries, where they are here.
     pub(crate) fn places(&self) -> Option<&EntryNumbers>
-        ensures numbered { IfSome result (λ _. self.now.numbered ≡ true) }
-        ensures places { IfSome result (λ places. places.now ≡ self.now.numbers) }
+        ensures places { IfSome result (λ places. self.now.places ≡ Some places.now) }
+        ensures told { is_some result ≡ is_some self.now.places }
     {
-        if self.numbered {
-            return Some(&self.numbers);
+        self.places.as_ref()
+    }
+
+    // The places of the entries, which are here.
+    fn given_places(&self) -> &EntryNumbers
+        requires { is_some self.now.places ≡ true }
+        ensures { self.now.places ≡ Some result.now }
+    {
+        match &self.places {
+            Some(places) => places,
+            None => unreachable!(),
         }
-        None
+    }
+
+    // Hands the places to the session, if they are here.
+    fn hand_over(&mut self, session: &mut Session)
+        requires { IsKeptFor self.old (table_now session.old.history) session.old.layout }
+        ensures kept { self.new ≡ record self.old { places = None } }
+        ensures session { session.new ≡ session.old }
+    {
+        if let Some(places) = self.places.take() {
+            session.keep_places(places);
+        }
+    }
+
+    // Whether the places are here, and so many characters are looked up by them at less cost than they are given anew: those that have
+    // followed changes are told by way of each.
+    fn has_quick_places(&self, table: &Table, characters: usize) -> bool
+        ensures { result ≡ true → is_some self.now.places ≡ true }
+    {
+        match &self.places {
+            Some(places) => places.moves() <= table.most_moves(characters),
+            None => false,
+        }
     }
 
     // Makes ready what serves a look for two texts with so many characters: the ranks where they are there, else the places for a
@@ -237,27 +284,28 @@ impl KeptRanks {
     fn prepare(
         &mut self,
         alloc: Global,
-        table: &Table,
+        session: &mut Session,
         characters: usize,
         others: usize,
     ) -> Result<(), AllocError>
-        requires { IsKeptFor self.old (collation table.now) table.now.layout }
-        ensures kept { IsKeptFor self.new (collation table.now) table.now.layout }
-        ensures spares { IsSome (with_look (collation table.now) self.old.looked (characters + others)) → self.new.ranks ≡ self.old.ranks }
-        ensures looked { self.new.looked ≡ looked_after (collation table.now) self.old (characters + others) }
-        ensures serves { OnOk result (CanServe self.new.ranks self.new.numbered) }
+        requires { IsKeptFor self.old (table_now session.old.history) session.old.layout }
+        ensures kept { IsKeptFor self.new (table_now session.new.history) session.new.layout }
+        ensures session { session.new ≡ session.old }
+        ensures spares { IsSome (with_look (table_now session.old.history) self.old.looked (characters + others)) → self.new.ranks ≡ self.old.ranks }
+        ensures looked { self.new.looked ≡ looked_after (table_now session.old.history) self.old (characters + others) }
+        ensures serves { OnOk result (CanServe self.new.ranks self.new.places) }
     {
         if self.ranks.is_some() {
             return Ok(());
         }
-        match self.short_look(table, characters, others) {
+        match self.short_look(session.table(), characters, others) {
             Some(looked) => {
                 self.looked = looked;
-                give_numbers(table, &mut self.numbers, &mut self.numbered, looked)?;
+                self.give_places(session, looked)?;
                 Ok(())
             }
             None => {
-                make_ranks(alloc, table, &mut self.ranks)?;
+                make_ranks(alloc, session.table(), &mut self.ranks)?;
                 Ok(())
             }
         }
@@ -300,31 +348,5 @@ fn make_ranks(alloc: Global, table: &Table, ranks: &mut Option<Ranks>) -> Result
 {
     let made = Ranks::new(alloc, table)?;
     keep(ranks, Some(made));
-    Ok(())
-}
-
-// Whether so many characters are looked up by places at less cost than these are given anew: those that have followed changes are
-// told by way of each.
-fn are_quick(table: &Table, numbers: &EntryNumbers, characters: usize) -> bool {
-    characters.saturating_mul(numbers.moves()) <= table.len() / ENTRIES_A_MOVE
-}
-
-// Gives the entries of a table their places, unless these are fresh, and quick for so many characters.
-fn give_numbers(
-    table: &Table,
-    numbers: &mut EntryNumbers,
-    numbered: &mut bool,
-    characters: usize,
-) -> Result<(), AllocError>
-    requires { AreNumbersIf numbered.old numbers.old table.now.layout }
-    ensures kept { AreNumbersIf numbered.new numbers.new table.now.layout }
-    ensures ok { OnOk result (numbered.new ≡ true) }
-{
-    if *numbered && are_quick(table, numbers, characters) {
-        return Ok(());
-    }
-    *numbered = false;
-    table.number_entries(numbers)?;
-    *numbered = true;
     Ok(())
 }

@@ -1,9 +1,9 @@
 //! A session with what is kept beside its table for keys and comparisons.
 //!
-//! Ranks, and places of entries, are made where a key or an order is asked for, and kept over commands and refusals. With each change
-//! of the table the ranks are given up: an accepted statement, an undo, a redo, a withdrawal. The places follow these as far as that
-//! goes. Whoever adds a call that changes the table has it go by what is kept. Contracts see what they see of the session, and nothing
-//! that is kept.
+//! Ranks, and places of entries, are made where a key or an order is asked for, and kept over commands and refusals. With each
+//! change of the table the ranks are given up: an accepted statement, an undo, a redo, a withdrawal. The places follow these
+//! where they are asked for again. Whoever adds a call that changes the table has it go by what is kept. Contracts see what they
+//! see of the session, and nothing that is kept.
 
 ghost use Rattle.std.specs.Prelude.{◌≡◌, ◌≢◌, ◌≤◌, ◌||◌, true, false, chars, length, IsTrue, IfSome, IfOk, IfErr, OnOk, OnErr};
 ghost use Rattle.coll_syntax.specs.Proper.{IsProper};
@@ -59,7 +59,7 @@ impl RankedSession {
     {
         RankedSession {
             session: Session::new(alloc, table),
-            kept: KeptRanks::new(alloc),
+            kept: KeptRanks::new(),
         }
     }
 
@@ -144,7 +144,7 @@ impl RankedSession {
         ensures short { IfOk result (λ _. is_too_long (chars text.now) ≡ false) }
         ensures err { IfErr result (λ fault. fault ≢ OutOfMemory → is_too_long (chars text.now) ≡ true) }
     {
-        let key = self.kept.key(alloc, self.session.table(), text)?;
+        let key = self.kept.key(alloc, &mut self.session, text)?;
         Ok(key)
     }
 
@@ -158,7 +158,7 @@ impl RankedSession {
         ensures short { IfOk result (λ _. (is_too_long (chars text.now) || is_too_long (chars other.now)) ≡ false) }
         ensures err { IfErr result (λ fault. fault ≢ OutOfMemory → (is_too_long (chars text.now) || is_too_long (chars other.now)) ≡ true) }
     {
-        let order = self.kept.compare(alloc, self.session.table(), text, other)?;
+        let order = self.kept.compare(alloc, &mut self.session, text, other)?;
         Ok(order)
     }
 
@@ -167,7 +167,7 @@ impl RankedSession {
     pub fn give_places(&mut self, characters: usize) -> Result<(), AllocError>
         ensures { self.new ≡ self.old }
     {
-        self.kept.give_places(self.session.table(), characters)
+        self.kept.give_places(&mut self.session, characters)
     }
 
     /// The places of the entries of the table now, where they are kept.
