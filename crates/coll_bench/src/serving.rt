@@ -152,8 +152,7 @@ impl RunState {
         self.session.give_places(characters)
     }
 
-    /// The places of the entries of the table now, where they are kept: after `give_places`, and as far as they have followed what
-    /// was changed since.
+    /// The places of the entries of the table now, where they are kept: after `give_places`, until the next change.
     pub fn places(&self) -> Option<&EntryNumbers>
         ensures { IfSome result (λ places. AreNumbersOf places.now (session_of self.now).layout) }
     {
