@@ -178,19 +178,52 @@ impl MadeLine {
     }
 }
 
-// The text of a source that has a line in its category, with these before it and behind it.
-fn source(form: Form, alloc: Global, parts: &[&[u8]]) -> Result<Vec<u8>, AllocError> {
+// Where an empty line is joined to a line, by an escape character.
+#[derive(Clone, Copy)]
+enum Joined {
+    // None is.
+    Nowhere,
+    // Before it.
+    Before,
+    // Behind it.
+    Behind,
+}
+
+// Puts an escape character, and the end of its line, behind a text.
+fn push_escape(text: &mut Vec<u8>, form: Form) -> Result<(), AllocError> {
+    text.push(form.escape)?;
+    text.extend_from_slice(form.end.as_bytes())?;
+    Ok(())
+}
+
+// The text of a source that has a line in its category.
+fn source(alloc: Global, form: Form, line: &[u8], joined: Joined) -> Result<Vec<u8>, AllocError> {
     let mut text = Vec::new(alloc);
+    push_source(&mut text, form, line, joined)?;
+    Ok(text)
+}
+
+// Puts it where there is none.
+fn push_source(
+    text: &mut Vec<u8>,
+    form: Form,
+    line: &[u8],
+    joined: Joined,
+) -> Result<(), AllocError> {
     text.extend_from_slice(form.head.as_bytes())?;
     text.extend_from_slice(b"LC_COLLATE")?;
     text.extend_from_slice(form.end.as_bytes())?;
-    for part in parts {
-        text.extend_from_slice(part)?;
+    if matches!(joined, Joined::Before) {
+        push_escape(text, form)?;
+    }
+    text.extend_from_slice(line)?;
+    if matches!(joined, Joined::Behind) {
+        push_escape(text, form)?;
     }
     text.extend_from_slice(form.end.as_bytes())?;
     text.extend_from_slice(b"END LC_COLLATE")?;
     text.extend_from_slice(form.end.as_bytes())?;
-    Ok(text)
+    Ok(())
 }
 
 // Tells what a line says.
@@ -238,9 +271,9 @@ fn read(rt: &impl Abort, alloc: Global, source: &[u8]) -> Vec<u8> {
     told
 }
 
-// What is told of a line with these before it and behind it.
-fn told(rt: &impl Abort, alloc: Global, form: Form, parts: &[&[u8]]) -> Vec<u8> {
-    let text = source(form, alloc, parts).expect(rt, "a text");
+// What is told of a line.
+fn told(rt: &impl Abort, alloc: Global, form: Form, line: &[u8], joined: Joined) -> Vec<u8> {
+    let text = source(alloc, form, line, joined).expect(rt, "a text");
     let told = read(rt, alloc, &text);
     drop(text);
     told
@@ -248,15 +281,13 @@ fn told(rt: &impl Abort, alloc: Global, form: Form, parts: &[&[u8]]) -> Vec<u8> 
 
 // Asserts that a line says what its tokens say.
 fn assert_line(rt: &impl Abort, alloc: Global, form: Form, line: &[u8]) {
-    let given = told(rt, alloc, form, &[line]);
-    let (escape, end) = ([form.escape], form.end.as_bytes());
-    let behind = told(rt, alloc, form, &[line, &escape, end]);
-    assert_text(rt, alloc, &given, &behind);
-    drop(behind);
-    let before = told(rt, alloc, form, &[&escape, end, line]);
-    assert_text(rt, alloc, &given, &before);
-    drop(before);
-    drop(given);
+    let wanted = told(rt, alloc, form, line, Joined::Nowhere);
+    for joined in [Joined::Before, Joined::Behind] {
+        let given = told(rt, alloc, form, line, joined);
+        assert_text(rt, alloc, &given, &wanted);
+        drop(given);
+    }
+    drop(wanted);
 }
 
 // Asserts that a made line says what its tokens say.
