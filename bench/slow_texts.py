@@ -13,6 +13,7 @@ rows whose names have one of them.
 
 Target: twice the size takes at most 2.6 times as long, which is what sorting would take, or less than 0.1 s in all. Looks each of which
 comes behind a change take, with the changes, at most four times as long as the same changes and then the same looks, or less than 0.1 s.
+A review that is measured beside other words takes at most so many times as long as with these as its row says.
 """
 
 import os
@@ -66,6 +67,9 @@ def block(count, target="a"):
     """A block of this many lines, each with weights."""
     lines = "".join(f"{character(number)} {character(number)};a;IGNORE;a\n" for number in range(count))
     return f"reorder-after {target}\n{lines}reorder-end\n"
+
+
+ALPHABET = "abcdefghijklmnopqrstuvwxyz"
 
 
 def declared_symbols(count):
@@ -169,6 +173,38 @@ def backward(count):
     return table("".join(f"{character(number)}\n" for number in range(count - 1, -1, -1)))
 
 
+def signs(rules):
+    """A table of four levels that ignores an apostrophe and a hyphen but at the last one."""
+    names = "".join(f"{name}\n" for name in ("<BASE>", "<MIN>", "<CAP>"))
+    ignored = "".join(f"<U{ord(sign):04X}> IGNORE;IGNORE;IGNORE;<U{ord(sign):04X}>\n" for sign in "'-")
+    letters = "".join(f"{low} {low};<BASE>;<MIN>;{low}\n{low.upper()} {low};<BASE>;<CAP>;{low.upper()}\n" for low in ALPHABET)
+    declared = "".join(f"collating-symbol {name}\n" for name in names.split())
+    return table(f"{names}{ignored}{letters}<U03B1>\n<U03B2>\n", declared, rules)
+
+
+def letters_alone(count):
+    """Words of nine letters."""
+    some = random.Random(count)
+    return "".join("".join(some.choices(ALPHABET, k=9)) + "\n" for _ in range(count))
+
+
+def with_signs(count):
+    """A third of them as they are, a third with an apostrophe behind them, and a third with a hyphen within."""
+    words = letters_alone(count // 3).split()
+    return "".join(f"{word}\n{word}'s\n{word[:4]}-{word[4:]}\n" for word in words)
+
+
+def with_capitals(count):
+    """A third of them as they are, a third with a capital, and a third of capitals."""
+    words = letters_alone(count // 3).split()
+    return "".join(f"{word}\n{word.capitalize()}\n{word.upper()}\n" for word in words)
+
+
+def greek(count):
+    """A delta file of statements each of which puts the first of two Greek letters behind the second."""
+    return delta(f"reorder-after <U03B{1 + turn % 2}>\n<U03B{2 - turn % 2}>\nreorder-end\n" for turn in range(count))
+
+
 PLACED = table("a\n" + "".join(f"{character(number)}\n" for number in range(4_000)))
 SINGLE = "".join(f"{chr(0x10000 + number)}\n" for number in range(4_000))
 # Of each row of words or of two tables: its name, the size, and what gives for a size the words behind the program, the files that some
@@ -208,6 +244,39 @@ LOOKS = {
         10_000, lambda: characters(1_100), put_behind(character(1), map(character, range(257, 1, -2))), TURNS, HIGH),
 }
 APART = 4
+
+# Reviews of twenty statements that move none of the words, whose comparisons are what takes time. Of each row: its name, the rules of the
+# table, the words, and how many times as long as plain ones by forward levels they may take.
+REVIEWED = {
+    "words with signs": ("forward;forward;forward;forward,position", with_signs, 2.0),
+    "words with signs by a backward second level": ("forward;backward;forward;forward,position", with_signs, 2.0),
+    "words with capitals": ("forward;forward;forward;forward,position", with_capitals, 2.0),
+    "words with capitals by a backward second level": ("forward;backward;forward;forward,position", with_capitals, 2.0),
+    "words of letters by a backward first level": ("backward;forward;forward;forward,position", letters_alone, 2.0),
+}
+REVIEWED_WORDS, REVIEWED_STATEMENTS = 60_000, 20
+
+
+def words_of_a(second):
+    """Words of nine letters, a fifth of which begin with a. One of these begins with this letter behind it, is last of them, and long."""
+    letters = random.Random(7)
+    firsts = "a" * 5 + "bcdefghijklmnopqrstu"
+    made = ("".join([letters.choice(firsts), *letters.choices("bcdefghijklmnopqrstuvwxy", k=8)]) for _ in range(60_000))
+    return "".join(f"{word}\n" for word in (*made, f"a{second}{'q' * 126}"))
+
+
+def moved_to_the_end(count):
+    """A delta file that declares an element, and has statements that put the letter a behind all letters, or before all."""
+    moves = (f"reorder-after {'z0'[turn % 2]}\na\nreorder-end\n" for turn in range(count))
+    return delta(['collating-element <az> from "az"\n', *moves])
+
+
+LETTERS = table("".join(f"{it}\n" for it in (*"0abcdefghijklmnopqrstuvwxyz", *map(character, range(100_000)))))
+# Of each row that is measured beside other words: its name, how many times as long as with these it may take, the table, the delta file,
+# its words, and the others.
+BESIDE = {
+    "review: many words beside one that may hold an element": (3, LETTERS, moved_to_the_end(20), words_of_a("z"), words_of_a("y")),
+}
 
 
 def time(program, words, lines=b""):
@@ -280,6 +349,39 @@ def looks(program, folder, chosen):
             yield met
 
 
+def reviews(program, folder, chosen):
+    def measured(rules, text):
+        for file_name, lines in (("table", signs(rules)), ("delta", greek(REVIEWED_STATEMENTS)), ("words", text)):
+            with open(f"{folder}/{file_name}", "w", encoding="utf-8") as file:
+                file.write(lines)
+        whole = time(program, ["review", *(f"{folder}/{file_name}" for file_name in ("table", "delta", "words"))])
+        return whole - time(program, ["sort", f"{folder}/table", f"{folder}/words"])
+
+    chosen_rows = {name: row for name, row in REVIEWED.items() if chosen(f"review: {name}")}
+    if chosen_rows:
+        plain = measured("forward;forward;forward;forward,position", letters_alone(REVIEWED_WORDS))
+    for name, (rules, text, times) in chosen_rows.items():
+        taken = measured(rules, text(REVIEWED_WORDS))
+        met = taken <= times * plain
+        print(f"review: {name}: {taken:.3f} s beyond a sort, and {plain:.3f} s for plain ones{'' if met else ', TOO SLOW'}", flush=True)
+        yield met
+
+
+def beside(program, folder, chosen):
+    for name, (times, table_text, delta_text, *lists) in BESIDE.items():
+        if chosen(name):
+            taken = []
+            for words_text in lists:
+                texts = {"table": table_text, "delta": delta_text, "words": words_text}
+                for file_name, text in texts.items():
+                    with open(f"{folder}/{file_name}", "w", encoding="utf-8") as file:
+                        file.write(text)
+                taken.append(time(program, ["review", *(f"{folder}/{file_name}" for file_name in texts)]))
+            met = taken[0] <= times * taken[1]
+            print(f"{name}: {taken[0]:.3f} s, and {taken[1]:.3f} s with other words{'' if met else ', TOO SLOW'}", flush=True)
+            yield met
+
+
 def words(program, folder, chosen):
     name, size = "key: many words", 100_000
     if chosen(name):
@@ -293,7 +395,7 @@ def main(program, folder, some):
     def chosen(name):
         return not some or any(word in name for word in some)
 
-    met = [row for rows in (loads, sessions, looks, files, words) for row in rows(program, folder, chosen)]
+    met = [row for rows in (loads, sessions, looks, files, reviews, beside, words) for row in rows(program, folder, chosen)]
     print(f"{sum(met)} of {len(met)} rows are as wanted")
     letters = random.Random(7)
     million = "".join("".join(letters.choices("abcdefghijklmnopqrstuvwxyz", k=9)) + "\n" for _ in range(1_000_000))

@@ -1,6 +1,6 @@
 -- What the characters of texts weigh decides their order.
-use Rattle.std.proofs.Common.{◌≡◌, inl, inr, ⊎_elim, ℕ, zero, suc, ◌+◌, ◌<◌, ◌≤◌, ◌==◌, Bool, true, false, List, [], ◌∷◌, ◌++◌, length, map, Option, Some, All, chars, refl, sym, ap, subst, ◌∙◌, append_assoc, arith, drop, get_or}
-use Rattle.std.specs.Prelude.{slice_index_or}
+use Rattle.std.proofs.Common.{◌≡◌, inl, inr, ⊎_elim, ℕ, zero, suc, ◌+◌, ◌<◌, ◌≤◌, ◌==◌, Bool, true, false, List, [], ◌∷◌, ◌++◌, length, map, Option, None, Some, All, chars, refl, sym, ap, subst, ◌∙◌, append_assoc, arith, drop, get_or}
+use Rattle.std.specs.Prelude.{IfSome, slice_index_or}
 use Rattle.std.specs.List.{flat_map}
 use Rattle.std.specs.Ordering.{is_ne, nat_cmp, ordering_reverse, ordering_then}
 use Rattle.std.specs.declared.cmp.Ordering.{Ordering}
@@ -25,12 +25,16 @@ use Rattle.coll_ranks.proofs.LevelRows.{rows_of_elements}
 use Rattle.coll_nodes.specs.WellFormed.{IsWellFormed}
 use Rattle.coll_key.proofs.KeyOrder.{keys_in_order}
 use Rattle.coll_key.specs.SortKey.{key_of}
-use Rattle.coll_key.proofs.OrderLemmas.{order_from}
+use Rattle.coll_key.proofs.LevelLemmas.{level_list_same}
+use Rattle.coll_key.proofs.OrderLemmas.{order_decided, order_from, order_goes_on}
+use Rattle.coll_key.proofs.RowLemmas.{list_alike}
+use Rattle.coll_key.specs.RowKeys.{AreRowsOf}
 use Rattle.coll_key.specs.LevelList.{items, items_of, level_list, listed, position_of}
 use Rattle.coll_key.specs.TextOrder.{level_lists, list_order, order_of}
 use Rattle.coll_words.specs.ElementMarks.{AreAlone, AreMarks, GoesOnOther, GoesOnOtherAt, IsAloneAt, IsApart, IsApartAt, IsSameAt, StandsAlone}
+use Rattle.coll_words.proofs.LevelNumberLemmas.{gaps_tell_nothing}
 use Rattle.coll_words.proofs.MarkLemmas.{stands_apart}
-use Rattle.coll_words.specs.LetterWeights.{BeginWith, DecidesBoth, GoesOn, IsFirstLetter, IsLetterRow, IsOrderToText, IsRowOf, IsStep, IsStepAtEnd, IsStepOfBoth, IsStepOfParts, LeavesParts, OrdersAlike, OrdersSo, PartsAlike, list_behind, order_at_end, order_behind, order_of_parts, text_items, text_numbers}
+use Rattle.coll_words.specs.LetterWeights.{DecidesBoth, GoesOn, IsFirstLetter, IsLetterRow, IsLevelOrder, IsRowOf, IsStep, IsStepAtEnd, IsStepOfBoth, OrdersAlike, OrdersSo, list_behind, order_at_end, order_behind, text_items, text_numbers}
 use Rattle.coll_words.specs.declared.element_marks.ElementMarks.{ElementMarks}
 use Rattle.coll_words.specs.declared.letter_weights.FirstLetter.{FirstLetter}
 use Rattle.coll_words.specs.declared.letter_weights.LetterRow.{LetterRow}
@@ -50,13 +54,57 @@ forward_list : (table : Collation) (level : ℕ) (rule : Rule) → rule.backward
 forward_list table level rule forward text =
     rw forward (ap (listed rule.position 0) (items_by_numbers (numbers_at table level) (elements_of table text)))
 
--- how a level orders two texts
-pub level_orders : (table : Collation) (level : ℕ) (rule : Rule) (text other : List ℕ) (order : Ordering) → rule.backward ≡ false → OrdersSo table level text other order
-    → order ≡ list_order (level_list rule (numbers_at table level) (elements_of table text)) (level_list rule (numbers_at table level) (elements_of table other))
-level_orders table level rule text other order forward orders =
-    orders rule.position 0
+-- how a level that is looked at from the front orders two texts
+pub level_orders_at : (table : Collation) (level : ℕ) (rule : Rule) (text other : List ℕ) (order : Ordering) → rule.backward ≡ false → order ≡ order_behind table level rule.position 0 text other
+    → IsLevelOrder table level rule text other order
+level_orders_at table level rule text other order forward orders =
+    orders
     ∙ ap (λ (l : List ℕ). list_order l (list_behind table level rule.position 0 other)) (sym (forward_list table level rule forward text))
     ∙ ap (list_order (level_list rule (numbers_at table level) (elements_of table text))) (sym (forward_list table level rule forward other))
+
+-- the same where it is told of what is left of both texts
+pub level_orders_behind : (table : Collation) (level : ℕ) (rule : Rule) (text other left right : List ℕ) (found : Option Ordering) → rule.backward ≡ false
+    → OrdersAlike table level text other left right → IfSome found (λ order. order ≡ order_behind table level rule.position 0 left right) → IfSome found (IsLevelOrder table level rule text other)
+level_orders_behind table level rule text other left right None forward alike orders = tt
+level_orders_behind table level rule text other left right (Some order) forward alike orders =
+    let one = alike rule.position 0 in
+    level_orders_at table level rule text other order forward (orders ∙ sym (one.1 ∙ gaps_tell_nothing table level rule.position one.0 left right))
+
+-- or whatever gaps came before
+pub level_orders : (table : Collation) (level : ℕ) (rule : Rule) (text other : List ℕ) (order : Ordering) → rule.backward ≡ false → OrdersSo table level text other order
+    → IsLevelOrder table level rule text other order
+level_orders table level rule text other order forward orders = level_orders_at table level rule text other order forward (orders rule.position 0)
+
+-- and how one that is looked at from the back does, by rows
+pub level_orders_by_rows : (table : Collation) (level : ℕ) (rule : Rule) (f : ElementRow → List ℕ) (weights : WeightsValue) → ((row : ElementRow) → f row ≡ row_numbers weights level row)
+    → level < length table.rules → (text other : List ℕ) (rows others : List ElementRow) (order : Ordering) → AreRowsOf table text weights rows → AreRowsOf table other weights others
+    → order ≡ list_order (level_list rule f rows) (level_list rule f others) → IsLevelOrder table level rule text other order
+level_orders_by_rows table level rule f weights same within text other rows others order are other_are orders =
+    orders
+    ∙ ap (λ (l : List ℕ). list_order l (level_list rule f others)) (listed_alike text rows are)
+    ∙ ap (list_order (level_list rule (numbers_at table level) (elements_of table text))) (listed_alike other others other_are)
+  where
+    listed_alike : (text : List ℕ) (rows : List ElementRow) → AreRowsOf table text weights rows → level_list rule f rows ≡ level_list rule (numbers_at table level) (elements_of table text)
+    listed_alike text rows are =
+        list_alike rule f (row_numbers weights level) same rows ∙ level_list_same rule (row_numbers weights level) (numbers_at table level) rows (elements_of table text) (are level within)
+
+-- the level at hand decides, where its order was found
+pub found_decides : {P : Type 0} (f : ℕ → P → List ℕ) (ps qs : List P) (level : ℕ) (rules_now rules : List Rule) (rule : Rule) (found : Option Ordering) (order : Ordering) → found ≡ Some order
+    → rules_now ≡ rules → level < length rules_now → true ≡ is_ne order
+    → IfSome found (λ o. o ≡ list_order (level_list (get_or rules_now level rule) (f level) ps) (level_list (get_or rules_now level rule) (f level) qs))
+    → order_from f ps qs level (drop level rules) ≡ order
+found_decides f ps qs level rules_now rules rule found order is same within ne decides =
+    order_decided f ps qs level rules_now rules rule order same within ne
+    (subst (λ (o : Option Ordering). IfSome o (λ p. p ≡ list_order (level_list (get_or rules_now level rule) (f level) ps) (level_list (get_or rules_now level rule) (f level) qs))) is decides)
+
+-- or leaves it to the next one
+pub found_goes_on : {P : Type 0} (f : ℕ → P → List ℕ) (ps qs : List P) (level : ℕ) (rules_now rules : List Rule) (rule : Rule) (found : Option Ordering) (order whole : Ordering)
+    → found ≡ Some order → rules_now ≡ rules → level < length rules_now → false ≡ is_ne order
+    → IfSome found (λ o. o ≡ list_order (level_list (get_or rules_now level rule) (f level) ps) (level_list (get_or rules_now level rule) (f level) qs))
+    → whole ≡ order_from f ps qs level (drop level rules) → whole ≡ order_from f ps qs (level + 1) (drop (level + 1) rules)
+found_goes_on f ps qs level rules_now rules rule found order whole is same within eq passes so_far =
+    order_goes_on f ps qs level rules_now rules rule order whole same within eq
+    (subst (λ (o : Option Ordering). IfSome o (λ p. p ≡ list_order (level_list (get_or rules_now level rule) (f level) ps) (level_list (get_or rules_now level rule) (f level) qs))) is passes) so_far
 
 -- the order of two texts is that of all their levels
 pub order_by_levels : (table : Collation) (text other : List ℕ) → order_of table text other ≡ order_from (numbers_at table) (elements_of table text) (elements_of table other) 0 table.rules
@@ -326,148 +374,6 @@ module _ (table : Collation) (level : ℕ) where
         single_at_end position gaps n (flat_map items_of (text_numbers table level (chars first.rest.now))) wanted
         ∙ ap (λ (l : List ℕ). order_at_end wanted (listed position gaps (items_of l ++ flat_map items_of (text_numbers table level (chars first.rest.now))))) (sym single)
         ∙ ap (order_at_end wanted) (sym (begin_first text first numbers is same position gaps))
-
--- Characters of several numbers.
-
-some_items : (ns : List ℕ) → 0 < length ns → items_of ns ≡ map Some ns
-some_items [] some = absurd (omega (arith, some))
-some_items (n ∷ ns) some = refl
-
-pub some_mapped : (f : ℕ → ℕ) (xs : List ℕ) → (length xs == 0) ≡ false → 0 < length (map f xs)
-some_mapped f [] some = absurd cc
-some_mapped f (x ∷ xs) some = omega arith
-
--- numbers begin with the first of them
-pub begin_with : (n : ℕ) (ms ns : List ℕ) → ns ≡ n ∷ ms → BeginWith n ns
-begin_with n ms ns is = subst (BeginWith n) (sym is) refl
-
--- two numbers behind as many gaps decide
-numbers_decide : (position : Bool) (gaps n m : ℕ) (xs ys : List ℕ) (order : Ordering) → order ≡ nat_cmp n m → is_ne order ≡ true
-    → order ≡ list_order (position_of position gaps ++ n ∷ xs) (position_of position gaps ++ m ∷ ys)
-numbers_decide position gaps n m xs ys order is ne =
-    decided order (list_order xs ys) ne ∙ ap (λ (o : Ordering). ordering_then o (list_order xs ys)) is ∙ sym (same_front (position_of position gaps) (n ∷ xs) (m ∷ ys))
-
--- or they leave it to what comes behind them
-numbers_pass : (position : Bool) (gaps n m : ℕ) (xs ys : List ℕ) (order : Ordering) → order ≡ nat_cmp n m → is_ne order ≡ false
-    → list_order (position_of position gaps ++ n ∷ xs) (position_of position gaps ++ m ∷ ys) ≡ list_order xs ys
-numbers_pass position gaps n m xs ys order is eq =
-    same_front (position_of position gaps) (n ∷ xs) (m ∷ ys) ∙ ap (λ (o : Ordering). ordering_then o (list_order xs ys)) (sym is) ∙ not_ne order (list_order xs ys) eq
-
-greater_than_none : (position : Bool) (gaps n : ℕ) (xs : List ℕ) → Greater ≡ list_order (position_of position gaps ++ n ∷ xs) []
-greater_than_none true gaps n xs = refl
-greater_than_none false gaps n xs = refl
-
-module _ (table : Collation) (level : ℕ) where
-  -- where the text has ended
-  pub number_at_end : (number : ℕ) (bytes : List ℕ) → bytes ≡ [] → IsOrderToText table level number (chars bytes) Greater
-  number_at_end number bytes none = λ position gaps later.
-      greater_than_none position gaps number (listed position 0 later)
-      ∙ sym (ap (λ (l : List ℕ). list_order (listed position gaps (Some number ∷ later)) (list_behind table level position gaps (chars l))) none
-      ∙ ap (λ (l : List ℕ). list_order (listed position gaps (Some number ∷ later)) (list_behind table level position gaps l)) chars-nil
-      ∙ ap (list_order (listed position gaps (Some number ∷ later))) (none_behind table level position gaps))
-
-  -- where it begins with another number
-  pub number_decides : (weights : WeightsValue) → level < length table.rules → (number next : ℕ) (text : List ℕ) (first : FirstLetter) (numbers : List ℕ) (order : Ordering)
-      → IsFirstLetter table weights text first → numbers ≡ row_numbers weights level first.row → BeginWith next numbers → order ≡ nat_cmp number next → is_ne order ≡ true
-      → IsOrderToText table level number text order
-  number_decides weights within number next text first [] order is same begin order_is ne = absurd begin
-  number_decides weights within number next text first (m ∷ ms) order is same begin order_is ne = λ position gaps later.
-      numbers_decide position gaps number m (listed position 0 later) (listed position 0 (map Some ms ++ text_items table level (chars first.rest.now))) order
-      (order_is ∙ ap (nat_cmp number) begin) ne
-      ∙ ap (list_order (listed position gaps (Some number ∷ later))) (sym (begin_first table level weights within text first (m ∷ ms) is same position gaps))
-
-  module _ (text other : List ℕ) where
-    pub parts_begin : (ns ms : List ℕ) → 0 < length ns → 0 < length ms → PartsAlike table level (items_of ns) (items_of ms) (map Some ns) (map Some ms) text other
-    parts_begin ns ms some others = λ position gaps. (
-      gaps,
-      ap (λ (xs : List (Option ℕ)). order_of_parts table level position gaps xs (items_of ms) text other) (some_items ns some)
-          ∙ ap (λ (ys : List (Option ℕ)). order_of_parts table level position gaps (map Some ns) ys text other) (some_items ms others),
-    )
-
-    -- one number of each less
-    pub parts_go_on : (part other_part : List (Option ℕ)) (left right later others : List ℕ) (n m : ℕ) (order : Ordering) → left ≡ n ∷ later → right ≡ m ∷ others → order ≡ nat_cmp n m
-        → is_ne order ≡ false → PartsAlike table level part other_part (map Some left) (map Some right) text other
-        → PartsAlike table level part other_part (map Some later) (map Some others) text other
-    parts_go_on part other_part left right later others n m order is other_is order_is eq so_far = λ position gaps.
-        let one = so_far position gaps in (
-          0,
-          one.1
-              ∙ ap (λ (l : List ℕ). order_of_parts table level position one.0 (map Some l) (map Some right) text other) is
-              ∙ ap (λ (l : List ℕ). order_of_parts table level position one.0 (map Some (n ∷ later)) (map Some l) text other) other_is
-              ∙ numbers_pass position one.0 n m (listed position 0 (map Some later ++ text_items table level text)) (listed position 0 (map Some others ++ text_items table level other)) order order_is eq,
-        )
-
-    pub parts_decide : (part other_part : List (Option ℕ)) (left right later others : List ℕ) (n m : ℕ) (order : Ordering) → left ≡ n ∷ later → right ≡ m ∷ others → order ≡ nat_cmp n m
-        → is_ne order ≡ true → PartsAlike table level part other_part (map Some left) (map Some right) text other → (position : Bool) (gaps : ℕ)
-        → order ≡ order_of_parts table level position gaps part other_part text other
-    parts_decide part other_part left right later others n m order is other_is order_is ne so_far position gaps =
-        let one = so_far position gaps in
-        numbers_decide position one.0 n m (listed position 0 (map Some later ++ text_items table level text)) (listed position 0 (map Some others ++ text_items table level other)) order order_is ne
-        ∙ sym (one.1
-        ∙ ap (λ (l : List ℕ). order_of_parts table level position one.0 (map Some l) (map Some right) text other) is
-        ∙ ap (λ (l : List ℕ). order_of_parts table level position one.0 (map Some (n ∷ later)) (map Some l) text other) other_is)
-
-    -- the first part has a number more
-    pub parts_longer : (part other_part : List (Option ℕ)) (left right later : List ℕ) (n : ℕ) (order : Ordering) → left ≡ n ∷ later → right ≡ [] → IsOrderToText table level n other order
-        → PartsAlike table level part other_part (map Some left) (map Some right) text other → (position : Bool) (gaps : ℕ)
-        → order ≡ order_of_parts table level position gaps part other_part text other
-    parts_longer part other_part left right later n order is none to_text so_far position gaps =
-        let one = so_far position gaps in
-        to_text position one.0 (map Some later ++ text_items table level text)
-        ∙ sym (one.1
-        ∙ ap (λ (l : List ℕ). order_of_parts table level position one.0 (map Some l) (map Some right) text other) is
-        ∙ ap (λ (l : List ℕ). order_of_parts table level position one.0 (map Some (n ∷ later)) (map Some l) text other) none)
-
-    -- or the second one has
-    pub parts_shorter : (part other_part : List (Option ℕ)) (left right later : List ℕ) (m : ℕ) (order : Ordering) → left ≡ [] → right ≡ m ∷ later → IsOrderToText table level m text order
-        → PartsAlike table level part other_part (map Some left) (map Some right) text other → (position : Bool) (gaps : ℕ)
-        → ordering_reverse order ≡ order_of_parts table level position gaps part other_part text other
-    parts_shorter part other_part left right later m order none is to_text so_far position gaps =
-        let one = so_far position gaps in
-        let list = list_behind table level position one.0 text in
-        let behind = listed position one.0 (Some m ∷ map Some later ++ text_items table level other) in
-        ap ordering_reverse (to_text position one.0 (map Some later ++ text_items table level other))
-        ∙ sym (nat_list_cmp_total.antisymm list behind)
-        ∙ sym (one.1
-        ∙ ap (λ (l : List ℕ). order_of_parts table level position one.0 (map Some l) (map Some right) text other) none
-        ∙ ap (λ (l : List ℕ). order_of_parts table level position one.0 [] (map Some l) text other) is)
-
-    -- neither has
-    pub parts_end : (ns ms left right : List ℕ) → left ≡ [] → right ≡ [] → PartsAlike table level (items_of ns) (items_of ms) (map Some left) (map Some right) text other
-        → LeavesParts table level ns ms text other text other
-    parts_end ns ms left right none others so_far = record {
-      same = λ position gaps.
-          let one = so_far position gaps in (
-            one.0,
-            one.1
-                ∙ ap (λ (l : List ℕ). order_of_parts table level position one.0 (map Some l) (map Some right) text other) none
-                ∙ ap (λ (l : List ℕ). order_of_parts table level position one.0 [] (map Some l) text other) others,
-          );
-      rest_is = refl;
-      other_is = refl;
-    }
-
-  pub step_parts : (weights : WeightsValue) → level < length table.rules → (text other : List ℕ) (first second : FirstLetter) (ns ms : List ℕ) (step : LetterStep)
-      → IsFirstLetter table weights text first → IsFirstLetter table weights other second → ns ≡ row_numbers weights level first.row → ms ≡ row_numbers weights level second.row
-      → IsStepOfParts table level ns ms (chars first.rest.now) (chars second.rest.now) step → IsStep table level text other step
-  step_parts weights within text other first second ns ms (Decided order) is other_is n m steps = λ position gaps.
-      steps position gaps
-      ∙ ap (λ (l : List ℕ). list_order l (listed position gaps (items_of ms ++ text_items table level (chars second.rest.now))))
-      (sym (begin_first table level weights within text first ns is n position gaps))
-      ∙ ap (list_order (list_behind table level position gaps text)) (sym (begin_first table level weights within other second ms other_is m position gaps))
-  step_parts weights within text other first second ns ms (Later later others) is other_is n m steps = record {
-    same = λ position gaps.
-        let one = steps.same position gaps in (
-          one.0,
-          ap (λ (l : List ℕ). list_order l (list_behind table level position gaps other)) (begin_first table level weights within text first ns is n position gaps)
-              ∙ ap (list_order (listed position gaps (items_of ns ++ text_items table level (chars first.rest.now)))) (begin_first table level weights within other second ms other_is m position gaps)
-              ∙ one.1
-              ∙ ap (λ (l : List ℕ). order_behind table level position one.0 l (chars second.rest.now)) (sym steps.rest_is)
-              ∙ ap (λ (l : List ℕ). order_behind table level position one.0 (chars later.now) l) (sym steps.other_is),
-        );
-    shorter = subst (λ (l : List ℕ). length l < length text) (sym steps.rest_is) is.shorter;
-  }
-  step_parts weights within text other first second ns ms Unknown is other_is n m steps = tt
 
 -- Rows.
 

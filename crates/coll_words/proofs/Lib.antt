@@ -1,3 +1,4 @@
+pub mod BackNumberLemmas
 pub mod DeclaredLemmas
 pub mod FirstLemmas
 pub mod KeptLemmas
@@ -7,6 +8,7 @@ pub mod LentLemmas
 pub mod LetterKeyLemmas
 pub mod LetterLemmas
 pub mod LetterOrders
+pub mod LevelNumberLemmas
 pub mod ListedKeyLemmas
 pub mod ListedLemmas
 pub mod MarkLemmas

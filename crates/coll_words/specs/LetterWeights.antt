@@ -1,16 +1,17 @@
 -- What characters weigh in a table, kept for the characters of words alone.
-use Rattle.std.specs.Prelude.{◌≡◌, ◌<◌, ℕ, Bool, List, [], ◌∷◌, ◌++◌, Option, Some, All, length, map, chars}
+use Rattle.std.specs.Prelude.{◌≡◌, ◌<◌, ℕ, Bool, List, [], ◌∷◌, ◌++◌, Option, All, length, map, chars}
 use Rattle.std.specs.List.{flat_map}
 use Rattle.std.specs.declared.cmp.Ordering.{Ordering}
 use Rattle.std.specs.declared.cmp.Ordering.TheVariants.{Equal}
 use Rattle.coll_syntax.specs.declared.identifiers.Id.TheVariants.{Char}
+use Rattle.coll_syntax.specs.declared.rules.Rule.{Rule}
 use Rattle.coll_nodes.specs.Table.{Collation}
 use Rattle.coll_elements.specs.Elements.{elements_of}
 use Rattle.coll_ranks.specs.LevelWeights.{row_numbers}
 use Rattle.coll_ranks.specs.RankLists.{WeightsValue}
 use Rattle.coll_ranks.specs.WeightNumbers.{numbers_at}
 use Rattle.coll_ranks.specs.declared.text_elements.ElementRow.{ElementRow}
-use Rattle.coll_key.specs.LevelList.{items_of, listed}
+use Rattle.coll_key.specs.LevelList.{items_of, level_list, listed}
 use Rattle.coll_key.specs.TextOrder.{list_order}
 use Rattle.coll_words.specs.ElementMarks.{AreMarks}
 use Rattle.coll_words.specs.FirstNumbers.{AreFirstNumbers}
@@ -65,6 +66,11 @@ OrdersAlike table level text other later others =
 abbrev pub OrdersSo : Collation → (level : ℕ) → (text other : List ℕ) → Ordering → Type 0
 OrdersSo table level text other order = (position : Bool) (gaps : ℕ) → order ≡ order_behind table level position gaps text other
 
+-- a level with this rule orders two texts so
+abbrev pub IsLevelOrder : Collation → (level : ℕ) → Rule → (text other : List ℕ) → Ordering → Type 0
+IsLevelOrder table level rule text other order =
+    order ≡ list_order (level_list rule (numbers_at table level) (elements_of table text)) (level_list rule (numbers_at table level) (elements_of table other))
+
 -- a step along two texts at a level: their first characters decide, or what comes later does
 pub record GoesOn (table : Collation) (level : ℕ) (text other later others : List ℕ) : Type 0 where
   pub same : OrdersAlike table level text other later others
@@ -105,38 +111,3 @@ IsStepAtEnd table level text wanted (Decided order) =
     (position : Bool) (gaps : ℕ) → order ≡ order_at_end wanted (list_behind table level position gaps text)
 IsStepAtEnd table level text wanted (Later later rest) = ⊥
 IsStepAtEnd table level text wanted Unknown = Unit {0}
-
--- numbers begin with this one
-abbrev pub BeginWith : ℕ → List ℕ → Type 0
-BeginWith n [] = ⊥
-BeginWith n (m ∷ ms) = n ≡ m
-
--- a number, whatever comes behind it, and a text have this order at a level
-abbrev pub IsOrderToText : Collation → (level : ℕ) → (number : ℕ) → (text : List ℕ) → Ordering → Type 0
-IsOrderToText table level number text order =
-    (position : Bool) (gaps : ℕ) (later : List (Option ℕ)) → order ≡ list_order (listed position gaps (Some number ∷ later)) (list_behind table level position gaps text)
-
--- the order of one text behind some numbers and gaps, and of another one behind others, where so many gaps came before both
-abbrev pub order_of_parts : Collation → (level : ℕ) → (position : Bool) → (gaps : ℕ) → (part other_part : List (Option ℕ)) → (text other : List ℕ) → Ordering
-order_of_parts table level position gaps part other_part text other =
-    list_order (listed position gaps (part ++ text_items table level text)) (listed position gaps (other_part ++ text_items table level other))
-
--- two parts before texts leave the order to two others, whatever gaps came before
-abbrev pub PartsAlike : Collation → (level : ℕ) → (part other_part later others : List (Option ℕ)) → (text other : List ℕ) → Type 0
-PartsAlike table level part other_part later others text other =
-    (position : Bool) (gaps : ℕ) → (after : ℕ)
-    × (order_of_parts table level position gaps part other_part text other ≡ order_of_parts table level position after later others text other)
-
--- the numbers of two elements leave the order to the texts behind them
-pub record LeavesParts (table : Collation) (level : ℕ) (numbers others : List ℕ) (text other rest other_rest : List ℕ) : Type 0 where
-  pub same : PartsAlike table level (items_of numbers) (items_of others) [] [] text other
-  pub rest_is : rest ≡ text
-  pub other_is : other_rest ≡ other
-
--- a step past the numbers of two elements: they decide, perhaps with what comes next, or what comes next does
-abbrev pub IsStepOfParts : Collation → (level : ℕ) → (numbers others : List ℕ) → (text other : List ℕ) → LetterStep → Type 0
-IsStepOfParts table level numbers others text other (Decided order) =
-    (position : Bool) (gaps : ℕ) → order ≡ order_of_parts table level position gaps (items_of numbers) (items_of others) text other
-IsStepOfParts table level numbers others text other (Later later rest) =
-    LeavesParts table level numbers others text other (chars later.now) (chars rest.now)
-IsStepOfParts table level numbers others text other Unknown = Unit {0}

@@ -1,3 +1,4 @@
+pub mod BackNumbers
 pub mod Declaring
 pub mod ElementMarks
 pub mod FirstKeys
@@ -9,6 +10,7 @@ pub mod LedWords
 pub mod LentWords
 pub mod LetterKeys
 pub mod LetterWeights
+pub mod LevelNumbers
 pub mod ListedKeys
 pub mod ListedWords
 pub mod MovedWords

@@ -1,5 +1,5 @@
 -- What words are compared by.
-use Rattle.std.specs.Prelude.{◌≡◌, chars, false, string_bytes}
+use Rattle.std.specs.Prelude.{◌≡◌, IfSome, chars, false, string_bytes}
 use Rattle.coll_nodes.specs.NodeNumbers.{AreNumbersOf}
 use Rattle.coll_nodes.specs.Table.{Collation}
 use Rattle.coll_nodes.specs.TableLayout.{TableValue, collation}
@@ -15,7 +15,9 @@ use Rattle.coll_words.specs.declared.word_orders.WordOrder.TheVariants.{ByRanks,
 -- it serves a table as that stands
 abbrev pub Serves : WordOrder → TableValue → Type 0
 Serves (ByRanks ranks) table = AreRanksOf ranks (collation table)
-Serves (ByLetters letters) table = AreLetterWeights (collation table) letters.weights × AreNumbersOf letters.numbers.now table.layout
+Serves (ByLetters letters) table =
+    AreLetterWeights (collation table) letters.weights × AreNumbersOf letters.numbers.now table.layout
+    × IfSome letters.ranks (λ ranks. AreRanksOf ranks (collation table))
 
 -- by the marks the characters, one behind another, hold no element, and they are few
 pub record AreApart (marks : ElementMarks) (letters : Letters) : Type 0 where

@@ -1,7 +1,9 @@
 //! What words are compared by behind a statement.
 //!
 //! Where words are their characters, the rows of these serve, which are few, and the table's entries are only numbered anew. Where
-//! they aren't, the ranks of the whole table are made.
+//! they aren't, the ranks of the whole table are made. In between, few words may hold an element: those are compared by keys, for which
+//! their texts are looked up in the table one by one, until these took about a tenth of the time that ranks take. Then the ranks are
+//! made after all, once for the statement, and tell what the rows don't.
 
 ghost use Rattle.std.specs.Prelude.{◌≡◌, chars, true, IfOk, IfSome};
 ghost use Rattle.std.specs.List.Sorted.{IsPermutation};
@@ -19,7 +21,8 @@ use crate::listed_words::ListedWord;
 use crate::word_fronts::WordFronts;
 use coll_elements::CodePoints;
 use coll_key::{
-    EntryNumbers, KeyFault, Ranks, compare, compare_texts, is_too_long, key, key_of_text,
+    EntryNumbers, KeyFault, Ranks, compare, is_too_long, key, key_of_text,
+    keys_are_ordered_as_texts,
 };
 use coll_table::Table;
 use std::alloc::{AllocError, Global};
@@ -31,9 +34,13 @@ const FEW_LETTERS: usize = 64;
 // For so many entries of the table it is one more.
 const ENTRIES_A_LETTER: usize = 32;
 
-// For so many entries of the table the words that may hold an element have one byte together. Such words are compared by their texts,
-// which takes for each byte, in the few comparisons that a word has behind a statement, about as long as the ranks of so many entries.
+// For so many entries of the table the words that may hold an element have one byte together. Where these are longer, ranks serve from the
+// first comparison on, since keys are made of all of them where many words move.
 const ENTRIES_A_JOINED_BYTE: usize = 32;
+
+// For so many entries of the table one number of a key, or one byte of its word, is paid for behind a statement, where words are compared
+// by keys since one may hold an element. All of them take about a tenth of the time that the ranks take.
+const ENTRIES_A_KEY_NUMBER: usize = 4;
 
 /// What is kept for a list of words from statement to statement.
 #[derive(Drop)]
@@ -42,6 +49,8 @@ pub(crate) struct Looks {
     letters: Option<Letters>,
     // The places of the table's entries when they were given last. Their memory is kept.
     numbers: EntryNumbers,
+    // Behind how many statements ranks were made after keys.
+    made_ranks: u32,
 }
 
 /// The rows of characters, and what serves a word that has another one.
@@ -51,10 +60,14 @@ pub(crate) struct LetterOrder<'a> {
     pub weights: LetterWeights,
     /// The places of the characters.
     pub places: &'a CodePoints,
-    /// Whether a word may hold an element: it is compared by its text then, which takes far longer.
+    /// Whether a word may hold an element.
     pub joined: bool,
     /// The places of the table's entries.
     pub numbers: &'a EntryNumbers,
+    /// How many numbers and bytes are still paid for in keys of words that may hold an element.
+    pub left: usize,
+    /// The ranks of the whole table, once nothing was left.
+    pub ranks: Option<Ranks>,
 }
 
 /// What words are compared by.
@@ -72,7 +85,13 @@ impl Looks {
         Looks {
             letters: None,
             numbers: EntryNumbers::new(alloc),
+            made_ranks: 0,
         }
+    }
+
+    /// Tells that ranks were made after keys: behind later statements half as many keys come before them.
+    pub fn count_ranks(&mut self) {
+        self.made_ranks = self.made_ranks.saturating_add(1);
     }
 }
 
@@ -90,8 +109,9 @@ pub(crate) fn word_order<'a>(
     ensures marks { IfSome marks.new (AreMarks (collation table.now)) }
 {
     if let Some(taken) = look_at_letters(alloc, table, marks, &mut looks.letters, list)? {
+        let left = numbers_paid_for(table, looks.made_ranks);
         if let Some(letters) = &looks.letters {
-            let order = letter_order(alloc, table, letters, taken, &mut looks.numbers)?;
+            let order = letter_order(alloc, table, letters, taken, &mut looks.numbers, left)?;
             return Ok(WordOrder::ByLetters(order));
         }
     }
@@ -99,23 +119,44 @@ pub(crate) fn word_order<'a>(
     Ok(WordOrder::ByRanks(ranks))
 }
 
-/// Gives marks back that were taken.
-pub(crate) fn give_back(_table: &Table, order: WordOrder<'_>, marks: &mut Option<ElementMarks>)
+/// Gives marks back that were taken, and tells whether ranks were made after keys.
+pub(crate) fn give_back(
+    _table: &Table,
+    order: WordOrder<'_>,
+    marks: &mut Option<ElementMarks>,
+) -> bool
     requires serves { Serves order _table.now }
     requires marks { IfSome marks.old (AreMarks (collation _table.now)) }
     ensures { IfSome marks.new (AreMarks (collation _table.now)) }
 {
     match order {
-        WordOrder::ByRanks(ranks) => drop(ranks),
+        WordOrder::ByRanks(ranks) => {
+            drop(ranks);
+            false
+        }
         WordOrder::ByLetters(letters) => {
             let LetterOrder {
                 weights,
                 places: _,
                 joined: _,
                 numbers: _,
+                left: _,
+                ranks,
             } = letters;
+            let were_made = ranks.is_some();
+            drop(ranks);
             drop(marks.replace(weights.into_marks()));
+            were_made
         }
+    }
+}
+
+// How many numbers and bytes are paid for in keys behind a statement, where ranks were made after keys behind so many.
+fn numbers_paid_for(table: &Table, made_ranks: u32) -> usize {
+    let paid = table.len() / ENTRIES_A_KEY_NUMBER;
+    match paid.checked_shr(made_ranks) {
+        Some(left) => left,
+        None => 0,
     }
 }
 
@@ -126,6 +167,7 @@ fn letter_order<'a>(
     letters: &'a Letters,
     marks: ElementMarks,
     numbers: &'a mut EntryNumbers,
+    left: usize,
 ) -> Result<LetterOrder<'a>, AllocError>
     requires letters { MayServe (collation table.now) letters.now }
     requires marks { AreMarks (collation table.now) marks }
@@ -138,6 +180,8 @@ fn letter_order<'a>(
         places: &letters.places,
         joined: letters.joined,
         numbers,
+        left,
+        ranks: None,
     })
 }
 
@@ -259,12 +303,13 @@ pub(crate) fn most_letters(table: &Table) -> usize {
 pub(crate) fn order_of_words(
     alloc: Global,
     table: &Table,
-    order: &WordOrder<'_>,
+    order: &mut WordOrder<'_>,
     text: &str,
     other: &str,
 ) -> Result<Ordering, KeyFault>
-    requires { Serves order.now table.now }
-    ensures { IfOk result (λ order. order ≡ order_of (collation table.now) (chars text.now) (chars other.now)) }
+    requires { Serves order.old table.now }
+    ensures order { IfOk result (λ order. order ≡ order_of (collation table.now) (chars text.now) (chars other.now)) }
+    ensures serves { Serves order.new table.now }
 {
     match order {
         WordOrder::ByRanks(ranks) => compare(alloc, table, ranks, text, other),
@@ -277,12 +322,13 @@ pub(crate) fn order_of_words(
 fn order_by_letters(
     alloc: Global,
     table: &Table,
-    letters: &LetterOrder<'_>,
+    letters: &mut LetterOrder<'_>,
     text: &str,
     other: &str,
 ) -> Result<Ordering, KeyFault>
-    requires { Serves (ByLetters letters.now) table.now }
-    ensures { IfOk result (λ order. order ≡ order_of (collation table.now) (chars text.now) (chars other.now)) }
+    requires { Serves (ByLetters letters.old) table.now }
+    ensures order { IfOk result (λ order. order ≡ order_of (collation table.now) (chars text.now) (chars other.now)) }
+    ensures serves { Serves (ByLetters letters.new) table.now }
 {
     if let Some(order) = letters
         .weights
@@ -290,17 +336,64 @@ fn order_by_letters(
     {
         return Ok(order);
     }
-    match letters
+    order_beyond_first(alloc, table, letters, text, other)
+}
+
+// The same, where single numbers don't tell it.
+#[inline(never)]
+fn order_beyond_first(
+    alloc: Global,
+    table: &Table,
+    letters: &mut LetterOrder<'_>,
+    text: &str,
+    other: &str,
+) -> Result<Ordering, KeyFault>
+    requires { Serves (ByLetters letters.old) table.now }
+    ensures order { IfOk result (λ order. order ≡ order_of (collation table.now) (chars text.now) (chars other.now)) }
+    ensures serves { Serves (ByLetters letters.new) table.now }
+{
+    if let Some(order) = letters
         .weights
         .order(alloc, table, letters.places, text, other)?
     {
-        Some(order) => Ok(order),
-        None => compare_texts(alloc, table, letters.numbers, text, other),
+        return Ok(order);
     }
+    if let Some(ranks) = &letters.ranks {
+        return compare(alloc, table, ranks, text, other);
+    }
+    if letters.left > 0 {
+        return order_by_keys(alloc, table, letters, text, other);
+    }
+    let ranks = Ranks::new(alloc, table)?;
+    let order = compare(alloc, table, &ranks, text, other);
+    letters.ranks = Some(ranks);
+    order
+}
+
+// The order of two words of which one may hold an element, by their keys, which are paid for.
+fn order_by_keys(
+    alloc: Global,
+    table: &Table,
+    letters: &mut LetterOrder<'_>,
+    text: &str,
+    other: &str,
+) -> Result<Ordering, KeyFault>
+    requires { Serves (ByLetters letters.old) table.now }
+    ensures order { IfOk result (λ order. order ≡ order_of (collation table.now) (chars text.now) (chars other.now)) }
+    ensures serves { Serves (ByLetters letters.new) table.now }
+{
+    table.lemma_well_formed();
+    keys_are_ordered_as_texts();
+    let key = key_by_letters(alloc, table, letters, text)?;
+    let other_key = key_by_letters(alloc, table, letters, other)?;
+    let bytes = text.len().saturating_add(other.len());
+    let numbers = key.len().saturating_add(other_key.len());
+    letters.left = letters.left.saturating_sub(bytes.saturating_add(numbers));
+    Ok(key.cmp(&other_key))
 }
 
 /// Whether the order of words may be guessed: they are their characters, which have rows, and the first level is looked at from the
-/// front. A guess is looked at once more, so words that are compared by their texts go without.
+/// front. A guess is looked at once more, so a list with words that may hold an element goes without.
 pub(crate) fn can_guess(table: &Table, order: &WordOrder<'_>) -> bool {
     match order {
         WordOrder::ByRanks(_) => false,
@@ -356,6 +449,22 @@ fn key_by_letters(
 {
     match letters.weights.key(alloc, table, letters.places, text)? {
         Some(key) => Ok(key),
+        None => key_of_joined(alloc, table, letters, text),
+    }
+}
+
+// The same of a word that may hold an element.
+fn key_of_joined(
+    alloc: Global,
+    table: &Table,
+    letters: &LetterOrder<'_>,
+    text: &str,
+) -> Result<Vec<u64>, KeyFault>
+    requires { Serves (ByLetters letters.now) table.now }
+    ensures { IfOk result (λ key. key.items ≡ key_of (collation table.now) (chars text.now)) }
+{
+    match &letters.ranks {
+        Some(ranks) => key(alloc, table, ranks, text),
         None => key_of_text(alloc, table, letters.numbers, text),
     }
 }

@@ -8,5 +8,6 @@ pub loop-place-preserved : goal.loop-place-preserved
 loop-place-preserved c = record {
   above = omega arith;
   sorted = order_on_at c.args.list.now c.loop-place.place _ _ c.loop-place.invariant.above c.loop-place-test.true (collation c.args.table.now)
-      (sym c.in_ok-comes_before.ensures ∙ c.if-branch.false) c.loop-place.invariant.sorted;
+      (sym c.in_ok-comes_before.ensures.before ∙ c.if-branch.false) c.loop-place.invariant.sorted;
+  serves = c.in_ok-comes_before.ensures.serves;
 }

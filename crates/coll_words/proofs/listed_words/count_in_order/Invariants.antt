@@ -5,6 +5,7 @@ use Rattle.std.specs.Ordering.{is_lt}
 use Rattle.coll_nodes.specs.TableLayout.{collation}
 use Rattle.coll_words.specs.ListedWords.{all_numbered}
 use Rattle.coll_words.specs.NumberedWords.{line_order}
+use Rattle.coll_words.specs.WordOrders.{Serves}
 use Rattle.coll_words.proofs.listed_words.count_in_order.Given as goal
 
 abbrev pub invariant-loop-place : goal.invariant-loop-place
@@ -12,4 +13,5 @@ invariant-loop-place l =
     record {
       above : 0 < l.place;
       sorted : IsSortedWithin (λ x y. is_lt (line_order (collation l.table) x y)) (all_numbered l.list) 0 l.place;
+      serves : Serves l.order l.table;
     }

@@ -7,11 +7,11 @@ use Rattle.coll_words.proofs.SortedAgain.{anew_led}
 use Rattle.coll_words.proofs.ListedLemmas.{length_led, take_front}
 use Rattle.coll_words.proofs.listed_words.sort_by_order.Goals as goal
 
-pub returns : goal.returns
-returns c =
+pub returns-clause-sorted : goal.returns-clause-sorted
+returns-clause-sorted c =
     let items = c.args.list.now.items in
     let len = c.args.list.now.len in
     let led = c.lead.new.list in
     let led_is : led ≡ led_by 0 items = c.lead.ensures ∙ ap (led_by 0) c.deref_mut.ensures.value in
     let long : length led ≡ len = ap (λ (l : List ListedWord). length l) led_is ∙ length_led 0 items ∙ sym c.args.list.now.ok.0 in
-    anew_led (collation c.args.table.now) items _ c.sort_led.new.list.items c.sort_led.result (take_front len led _ long ∙ led_is) c.sort_led.ensures
+    anew_led (collation c.args.table.now) items _ c.sort_led.new.list.items c.sort_led.result (take_front len led _ long ∙ led_is) c.sort_led.ensures.sorted

@@ -10,8 +10,9 @@ parts-preserved-then-branch c = record {
   within = omega (arith, c.place_before-place.ensures.below, c.parts.invariant.within);
   put = λ d within.
       put_here (collation c.args.table.now) c.args.words.now c.place_before-place.result _ c.args.next.now d (comes_once (collation c.args.table.now) c.lemma_well_formed.ensures.well_formed)
-      within (sym c.in_ok-comes_before.ensures ∙ c.if-branch.true);
+      within (sym c.in_ok-comes_before.ensures.before ∙ c.if-branch.true);
   stay = c.parts.invariant.stay;
+  serves = c.in_ok-comes_before.ensures.serves;
 }
 
 pub parts-preserved : goal.parts-preserved
@@ -21,5 +22,6 @@ parts-preserved c = record {
   put = c.parts.invariant.put;
   stay = λ d above.
       stays_here (collation c.args.table.now) c.args.words.now c.place_before-place.result _ _ c.args.next.now d
-      (omega (arith, c.place_before-place.ensures.below, c.parts.invariant.within)) (omega arith) (sym c.in_ok-comes_before.ensures ∙ c.if-branch.false);
+      (omega (arith, c.place_before-place.ensures.below, c.parts.invariant.within)) (omega arith) (sym c.in_ok-comes_before.ensures.before ∙ c.if-branch.false);
+  serves = c.in_ok-comes_before.ensures.serves;
 }

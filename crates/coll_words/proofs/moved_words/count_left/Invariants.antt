@@ -5,6 +5,7 @@ use Rattle.coll_nodes.specs.TableLayout.{collation}
 use Rattle.coll_words.specs.ListedWords.{numbered_of}
 use Rattle.coll_words.specs.NumberedWords.{line_order}
 use Rattle.coll_words.specs.declared.listed_words.ListedWord.{ListedWord}
+use Rattle.coll_words.specs.WordOrders.{Serves}
 use Rattle.coll_words.proofs.moved_words.count_left.Given as goal
 
 abbrev pub invariant-parts : goal.invariant-parts
@@ -13,6 +14,7 @@ invariant-parts l = record {
   within : l.high ≤ length l.words;
   put : (d : ListedWord) → l.high < length l.words → is_lt (line_order (collation l.table) (numbered_of l.next) (numbered_of (get_or l.words l.high d))) ≡ false;
   stay : (d : ListedWord) → 0 < l.low → is_lt (line_order (collation l.table) (numbered_of (get_or l.words (l.low - 1) d)) (numbered_of l.next)) ≡ false;
+  serves : Serves l.order l.table;
 }
 
 abbrev pub decreases-parts : goal.decreases-parts

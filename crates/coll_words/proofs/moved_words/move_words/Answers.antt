@@ -3,7 +3,7 @@ use Rattle.coll_nodes.specs.TableLayout.{collation}
 use Rattle.coll_words.proofs.SortedAgain.{again_put}
 use Rattle.coll_words.proofs.moved_words.move_words.Goals as goal
 
-pub returns : goal.returns
-returns c =
+pub returns-clause-sorted : goal.returns-clause-sorted
+returns-clause-sorted c =
     again_put (collation c.args.table.now) c.args.list.now.items c.take_apart.new.kept.items c.take_apart.new.moved.items c.sort_moved.new.moved.items c.put_together.new.list.items
     c.put_together.result c.in_ok-take_apart.ensures.same c.in_ok-sort_moved.ensures c.put_together.ensures.same c.put_together.ensures.ordered

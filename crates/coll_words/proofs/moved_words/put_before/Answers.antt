@@ -6,8 +6,7 @@ use Rattle.coll_words.specs.declared.listed_words.ListedWord.{ListedWord}
 use Rattle.coll_words.proofs.OrderedWords.{puts_parted}
 use Rattle.coll_words.proofs.moved_words.put_before.Goals as goal
 
-pub returns : goal.returns
-returns c = record {
-  put = puts_parted (collation c.args.table.now) c.args.next.now c.args.list.now.items c.args.kept.now.items c.put_last.new.list.items c.put_last.new.kept.items c.in_ok-left.left
-      (subst (λ (words : List ListedWord). PartsAt (collation c.args.table.now) c.args.next.now words c.in_ok-left.left) c.deref.ensures.value c.in_ok-left.ensures) c.in_ok-put_last.ensures;
-}
+pub returns-clause-put : goal.returns-clause-put
+returns-clause-put c =
+    puts_parted (collation c.args.table.now) c.args.next.now c.args.list.now.items c.args.kept.now.items c.put_last.new.list.items c.put_last.new.kept.items c.in_ok-left.left
+    (subst (λ (words : List ListedWord). PartsAt (collation c.args.table.now) c.args.next.now words c.in_ok-left.left) c.deref.ensures.value c.in_ok-left.ensures.parts) c.in_ok-put_last.ensures

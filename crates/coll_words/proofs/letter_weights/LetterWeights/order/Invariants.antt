@@ -4,7 +4,7 @@ use Rattle.coll_nodes.specs.TableLayout.{collation}
 use Rattle.coll_elements.specs.Elements.{elements_of}
 use Rattle.coll_ranks.specs.WeightNumbers.{numbers_at}
 use Rattle.coll_key.proofs.OrderLemmas.{order_from}
-use Rattle.coll_words.proofs.letter_weights.LetterWeights.quick_order.Given as goal
+use Rattle.coll_words.proofs.letter_weights.LetterWeights.order.Given as goal
 
 abbrev pub invariant-loop-level : goal.invariant-loop-level
 invariant-loop-level l =

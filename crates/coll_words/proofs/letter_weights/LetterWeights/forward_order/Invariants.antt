@@ -4,7 +4,7 @@ use denote.Shadow.{shadow}
 use denote.Text.{Utf8}
 use Rattle.coll_nodes.specs.TableLayout.{collation}
 use Rattle.coll_words.specs.LetterWeights.{OrdersAlike}
-use Rattle.coll_words.proofs.letter_weights.LetterWeights.level_order.Given as goal
+use Rattle.coll_words.proofs.letter_weights.LetterWeights.forward_order.Given as goal
 
 abbrev pub invariant-letters : goal.invariant-letters
 invariant-letters l = record {
