@@ -8,7 +8,7 @@
 ghost use Rattle.coll_ranks.specs.Ranks.{AreRanksOf};
 ghost use Rattle.coll_nodes.specs.TableLayout.{collation};
 
-use crate::assertions::{assert_same, assert_that, assert_text};
+use crate::assertions::{assert_same, assert_text, assert_that};
 use crate::tables::examples::loaded;
 use coll_key::{Ranks, compare};
 use coll_lex::Counted;
@@ -27,18 +27,21 @@ const RULES: &[&str] = &[
 ];
 
 // What stands before the rules.
-const DECLARED: &str = "LC_COLLATE\ncollating-symbol <BASE>\ncollating-symbol <ACUTE>\ncollating-symbol <MIN>\ncollating-symbol <CAP>
+const DECLARED: &str =
+    "LC_COLLATE\ncollating-symbol <BASE>\ncollating-symbol <ACUTE>\ncollating-symbol <MIN>\ncollating-symbol <CAP>
 collating-element <ch> from \"<U0063><U0068>\"\norder_start ";
 
 // The entries before the one that a statement moves.
-const BEFORE: &str = "\n<BASE>\n<ACUTE>\n<MIN>\n<CAP>\n<U0027> IGNORE;IGNORE;IGNORE;<U0027>\n<U002D> IGNORE;IGNORE;IGNORE;<U002D>
+const BEFORE: &str =
+    "\n<BASE>\n<ACUTE>\n<MIN>\n<CAP>\n<U0027> IGNORE;IGNORE;IGNORE;<U0027>\n<U002D> IGNORE;IGNORE;IGNORE;<U002D>
 <U0301> IGNORE;<ACUTE>;<MIN>;<U0301>\n<U0061> <U0061>;<BASE>;<MIN>;<U0061>\n<U0041> <U0061>;<BASE>;<CAP>;<U0041>\n";
 
 // That entry.
 const MOVED: &str = "<U0062> <U0062>;<BASE>;<MIN>;<U0062>\n";
 
 // Those up to where it goes.
-const BETWEEN: &str = "<U0063> <U0063>;<BASE>;<MIN>;<U0063>\n<ch> <ch>;<BASE>;<MIN>;<ch>\n<U0065> <U0065>;<BASE>;<MIN>;<U0065>
+const BETWEEN: &str =
+    "<U0063> <U0063>;<BASE>;<MIN>;<U0063>\n<ch> <ch>;<BASE>;<MIN>;<ch>\n<U0065> <U0065>;<BASE>;<MIN>;<U0065>
 <U00E9> <U0065>;\"<BASE><ACUTE>\";<MIN>;<U00E9>\n";
 
 // And those behind.
@@ -188,7 +191,12 @@ fn leaders(alloc: Global, order: &[usize]) -> Result<Vec<usize>, AllocError> {
 }
 
 // The line of two words that became neighbours.
-fn push_joined(lines: &mut String, words: &[String], leader: usize, place: usize) -> Result<(), AllocError> {
+fn push_joined(
+    lines: &mut String,
+    words: &[String],
+    leader: usize,
+    place: usize,
+) -> Result<(), AllocError> {
     if let (Some(first), Some(second)) = (words.get(leader.saturating_sub(1)), words.get(place)) {
         lines.push_str("joined \"")?;
         lines.push_str(first.as_str())?;
@@ -222,7 +230,13 @@ fn new_pairs(
 }
 
 // What a review of the statement tells, by the orders of the words before it and behind it.
-fn wanted(rt: &impl Abort, alloc: Global, words: &[String], before: &[usize], behind: &[usize]) -> String {
+fn wanted(
+    rt: &impl Abort,
+    alloc: Global,
+    words: &[String],
+    before: &[usize],
+    behind: &[usize],
+) -> String {
     let leaders = leaders(alloc, before).expect(rt, "leaders");
     let (parted, lines) = new_pairs(alloc, words, &leaders, behind).expect(rt, "pairs");
     assert_that(rt, "words move", parted > 100);
@@ -260,8 +274,16 @@ fn table_of(rt: &impl Abort, alloc: Global, pieces: &[&str]) -> Table {
 fn assert_reviewed(rt: &impl Abort, alloc: Global, rules: &str) {
     let words = made_words(alloc).expect(rt, "words");
     let lines = lines_of(alloc, &words).expect(rt, "lines");
-    let before = table_of(rt, alloc, &[DECLARED, rules, BEFORE, MOVED, BETWEEN, BEHIND]);
-    let behind = table_of(rt, alloc, &[DECLARED, rules, BEFORE, BETWEEN, MOVED, BEHIND]);
+    let before = table_of(
+        rt,
+        alloc,
+        &[DECLARED, rules, BEFORE, MOVED, BETWEEN, BEHIND],
+    );
+    let behind = table_of(
+        rt,
+        alloc,
+        &[DECLARED, rules, BEFORE, BETWEEN, MOVED, BEHIND],
+    );
     let first = ordered(rt, alloc, &before, &words);
     let second = ordered(rt, alloc, &behind, &words);
     drop(behind);
