@@ -46,14 +46,9 @@ mod order_lines;
 #[cfg(test)]
 mod ordered_rings;
 #[cfg(test)]
-//! `reviews` of `coll_words`, `surveys` of `coll_surveys`, `order_lines` of `coll_sources`, `meanings` of `coll_meanings`, `imports` of
-//! `coll_import`, `listed_words` of `coll_edit`, and `faults` of the shown text of the faults of all of them. `writes` is of what any of
-//! them writes to a device that fails, and `endless` of readers that never end; `growths` says which of them are run with growths of
-//! memory refused. `statements` makes statements of their lines, `devices` has the devices that they use, `long_texts` makes their
-//! longest texts, `random` has the numbers by which others are made, and `assertions` compares what they are given.
-//! Expected values come from POSIX.1-2017 (7.3.2), from ISO/IEC 14651 and from docs/, and never from what a program wrote.
-//! `reviews`, `surveys`, `order_lines`, `meanings` and `listed_words` alone compare two forms of a thing: the fast one tells what the one
-//! that reads all of it tells.
+mod random;
+#[cfg(test)]
+mod reviews;
 #[cfg(test)]
 mod sessions;
 #[cfg(test)]
