@@ -13,7 +13,7 @@ rows whose names have one of them.
 
 Target: twice the size takes at most 2.6 times as long, which is what sorting would take, or less than 0.1 s in all. Looks each of which
 comes behind a change take, with the changes, at most four times as long as the same changes and then the same looks, or less than 0.1 s.
-A review that is measured beside other words takes at most so many times as long as with these as its row says.
+A review that is measured beside other words, or beside a sort, takes at most so many times as long as its row says.
 """
 
 import os
@@ -246,13 +246,14 @@ LOOKS = {
 APART = 4
 
 # Reviews of twenty statements that move none of the words, whose comparisons are what takes time. Of each row: its name, the rules of the
-# table, the words, and how many times as long as plain ones by forward levels they may take.
+# table, the words, and how many times as long as `sort --parallel=1` takes for a million words the review may take beyond a sort of its own.
+FORWARD, SECOND_BACKWARD = "forward;forward;forward;forward,position", "forward;backward;forward;forward,position"
 REVIEWED = {
-    "words with signs": ("forward;forward;forward;forward,position", with_signs, 2.0),
-    "words with signs by a backward second level": ("forward;backward;forward;forward,position", with_signs, 2.0),
-    "words with capitals": ("forward;forward;forward;forward,position", with_capitals, 2.0),
-    "words with capitals by a backward second level": ("forward;backward;forward;forward,position", with_capitals, 2.0),
-    "words of letters by a backward first level": ("backward;forward;forward;forward,position", letters_alone, 2.0),
+    "review: words with signs": (FORWARD, with_signs, 0.6),
+    "review: words with signs, the second level backward": (SECOND_BACKWARD, with_signs, 0.8),
+    "review: words with capitals": (FORWARD, with_capitals, 0.9),
+    "review: words with capitals, the second level backward": (SECOND_BACKWARD, with_capitals, 1.1),
+    "review: words of letters, the first level backward": ("backward;forward;forward;forward,position", letters_alone, 1.0),
 }
 REVIEWED_WORDS, REVIEWED_STATEMENTS = 60_000, 20
 
@@ -349,21 +350,23 @@ def looks(program, folder, chosen):
             yield met
 
 
+def sorted_million():
+    """What `sort --parallel=1` takes for a million words."""
+    lines = letters_alone(1_000_000).encode()
+    return time("/usr/bin/env", ["LC_ALL=C", "sort", "--parallel=1"], lines)
+
+
 def reviews(program, folder, chosen):
-    def measured(rules, text):
-        for file_name, lines in (("table", signs(rules)), ("delta", greek(REVIEWED_STATEMENTS)), ("words", text)):
+    rows = {name: row for name, row in REVIEWED.items() if chosen(name)}
+    million = sorted_million() if rows else 0
+    for name, (rules, text, times) in rows.items():
+        for file_name, lines in (("table", signs(rules)), ("delta", greek(REVIEWED_STATEMENTS)), ("words", text(REVIEWED_WORDS))):
             with open(f"{folder}/{file_name}", "w", encoding="utf-8") as file:
                 file.write(lines)
-        whole = time(program, ["review", *(f"{folder}/{file_name}" for file_name in ("table", "delta", "words"))])
-        return whole - time(program, ["sort", f"{folder}/table", f"{folder}/words"])
-
-    chosen_rows = {name: row for name, row in REVIEWED.items() if chosen(f"review: {name}")}
-    if chosen_rows:
-        plain = measured("forward;forward;forward;forward,position", letters_alone(REVIEWED_WORDS))
-    for name, (rules, text, times) in chosen_rows.items():
-        taken = measured(rules, text(REVIEWED_WORDS))
-        met = taken <= times * plain
-        print(f"review: {name}: {taken:.3f} s beyond a sort, and {plain:.3f} s for plain ones{'' if met else ', TOO SLOW'}", flush=True)
+        taken = time(program, ["review", *(f"{folder}/{file_name}" for file_name in ("table", "delta", "words"))])
+        beyond = taken - time(program, ["sort", f"{folder}/table", f"{folder}/words"])
+        met = beyond <= times * million
+        print(f"{name}: {beyond:.3f} s beyond a sort, {beyond / million:.2f} times that of a million{'' if met else ', TOO SLOW'}", flush=True)
         yield met
 
 
@@ -397,9 +400,7 @@ def main(program, folder, some):
 
     met = [row for rows in (loads, sessions, looks, files, reviews, beside, words) for row in rows(program, folder, chosen)]
     print(f"{sum(met)} of {len(met)} rows are as wanted")
-    letters = random.Random(7)
-    million = "".join("".join(letters.choices("abcdefghijklmnopqrstuvwxyz", k=9)) + "\n" for _ in range(1_000_000))
-    print(f"sort --parallel=1 of a million words: {time('/usr/bin/env', ['LC_ALL=C', 'sort', '--parallel=1'], million.encode()):.3f} s")
+    print(f"sort --parallel=1 of a million words: {sorted_million():.3f} s")
 
 
 if __name__ == "__main__":
