@@ -4,8 +4,9 @@
 //! the entries and gives each its number; it is kept beside a table. Where one entry goes to another place, the numbers of all
 //! between change by one, and none of them is written: the move is kept, and a number is told behind the moves that came after it
 //! was given. So a change of a few entries costs no pass over all. Only so many moves are kept; behind these all numbers are to be
-//! given anew: those of nodes that stand are written over, those of others are none from then on, with no write to them, and memory
-//! is taken only for nodes that it has no room for yet (`specs/EntryNumbers.antt`). How numbers are kept may change.
+//! given anew: those of nodes that stand are written over, nothing is written to the others, whose number, if one is told, nobody
+//! goes by, and memory is taken only for nodes that it has no room for yet (`specs/EntryNumbers.antt`). How numbers are kept may
+//! change.
 
 ghost use Rattle.std.specs.Prelude.{◌≡◌, ◌<◌, ◌≤◌, ◌+◌, [], ℕ, length, true, false, if◌then◌else◌, slice_index_or, vec_len, OnOk};
 ghost use Rattle.coll_order.specs.Lists.{same_node};

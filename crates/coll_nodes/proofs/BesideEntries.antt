@@ -16,7 +16,7 @@ use Rattle.coll_syntax.specs.Identifier.{same_id, has_id}
 use Rattle.coll_syntax.specs.declared.identifiers.Id.{Id}
 use Rattle.coll_nodes.specs.Beside.{entry_before, entry_behind, entry_between, first_of, last_behind, last_entry, section_name}
 use Rattle.coll_nodes.specs.NodeNumbers.{entry_nodes, entry_nodes_in}
-use Rattle.coll_nodes.specs.NodesBeside.{entry_of, is_asked, name_if, node_between, ring_if, section_among}
+use Rattle.coll_nodes.specs.NodesBeside.{is_asked, name_if, node_between, node_entry, ring_if, section_among}
 use Rattle.coll_nodes.specs.SoundBodies.{entry_if, has_key, ids_in, read_at, ring_at, Finds, IsShaped}
 use Rattle.coll_nodes.specs.SoundLayouts.{IsSoundLayout}
 use Rattle.coll_nodes.specs.Table.{Section, ids_of, is_placed_in, joined_entries}
@@ -70,19 +70,19 @@ module _ (layout : TableLayout) where
   later_entries node nodes are other there = are other (or_second (same_node other node) _ there)
 
   -- the entry that a node is
-  entry_is : (node : NodeId) (entry : Entry) → content_of layout node ≡ Some (content.Placed entry) → entry_of layout node ≡ Some entry
+  entry_is : (node : NodeId) (entry : Entry) → content_of layout node ≡ Some (content.Placed entry) → node_entry layout node ≡ Some entry
   entry_is node entry is = ap (option_and_then entry_if) is
 
   -- the first entry is that of the first node
-  first_at : (nodes : List NodeId) → AreEntries nodes → first_of (entries_at nodes) ≡ option_and_then (entry_of layout) (first_in nodes)
+  first_at : (nodes : List NodeId) → AreEntries nodes → first_of (entries_at nodes) ≡ option_and_then (node_entry layout) (first_in nodes)
   first_at [] are = refl
   first_at (node ∷ nodes) are =
       let here = first_entry node nodes are in
       ap first_of (cut_first node nodes here.0.0 here.0.1) ∙ sym (entry_is node here.0.0 here.0.1)
 
   -- the last entry is that of the last node
-  last_at : (before : Option Entry) (last : Option NodeId) (nodes : List NodeId) → before ≡ option_and_then (entry_of layout) last → AreEntries nodes
-      → last_behind before (entries_at nodes) ≡ option_and_then (entry_of layout) (last_behind last nodes)
+  last_at : (before : Option Entry) (last : Option NodeId) (nodes : List NodeId) → before ≡ option_and_then (node_entry layout) last → AreEntries nodes
+      → last_behind before (entries_at nodes) ≡ option_and_then (node_entry layout) (last_behind last nodes)
   last_at before last [] same are = same
   last_at before last (first ∷ nodes) same are =
       let here = first_entry first nodes are in
@@ -91,30 +91,30 @@ module _ (layout : TableLayout) where
 
   module _ (sound : IsSoundLayout layout) (id : Id) (node : NodeId) (has : has_key same_id ids_in layout id node ≡ true) where
     -- the entry before that of an identifier is that of the node before its own
-    before_at : (before : Option Entry) (last : Option NodeId) (nodes : List NodeId) → before ≡ option_and_then (entry_of layout) last → AreEntries nodes
-        → entry_between before (entries_at nodes) id ≡ option_and_then (entry_of layout) (node_between last nodes node)
+    before_at : (before : Option Entry) (last : Option NodeId) (nodes : List NodeId) → before ≡ option_and_then (node_entry layout) last → AreEntries nodes
+        → entry_between before (entries_at nodes) id ≡ option_and_then (node_entry layout) (node_between last nodes node)
     before_at before last [] same are = refl
     before_at before last (first ∷ nodes) same are =
         let here = first_entry first nodes are in
         let entry = here.0.0 in
         ap (λ es. entry_between before es id) (cut_first first nodes entry here.0.1)
-        ∙ (by_test (λ b. cond b before (entry_between (Some entry) (entries_at nodes) id) ≡ option_and_then (entry_of layout) (cond b last (node_between (Some first) nodes node))) (same_id id entry.id)
+        ∙ (by_test (λ b. cond b before (entry_between (Some entry) (entries_at nodes) id) ≡ option_and_then (node_entry layout) (cond b last (node_between (Some first) nodes node))) (same_id id entry.id)
         (λ on. same)
         (λ off. before_at (Some entry) (Some first) nodes (sym (entry_is first entry here.0.1)) (later_entries first nodes are))
-        ∙ sym (ap (λ b. option_and_then (entry_of layout) (cond b last (node_between (Some first) nodes node)))
+        ∙ sym (ap (λ b. option_and_then (node_entry layout) (cond b last (node_between (Some first) nodes node)))
         (same_entry layout sound.shaped sound.ids id node has first entry here.0.1 here.1)))
 
     -- so is the one behind it
-    behind_at : (nodes : List NodeId) → AreEntries nodes → entry_behind (entries_at nodes) id ≡ option_and_then (entry_of layout) (next_in nodes node)
+    behind_at : (nodes : List NodeId) → AreEntries nodes → entry_behind (entries_at nodes) id ≡ option_and_then (node_entry layout) (next_in nodes node)
     behind_at [] are = refl
     behind_at (first ∷ nodes) are =
         let here = first_entry first nodes are in
         let entry = here.0.0 in
         ap (λ es. entry_behind es id) (cut_first first nodes entry here.0.1)
-        ∙ (by_test (λ b. cond b (first_of (entries_at nodes)) (entry_behind (entries_at nodes) id) ≡ option_and_then (entry_of layout) (cond b (first_in nodes) (next_in nodes node))) (same_id id entry.id)
+        ∙ (by_test (λ b. cond b (first_of (entries_at nodes)) (entry_behind (entries_at nodes) id) ≡ option_and_then (node_entry layout) (cond b (first_in nodes) (next_in nodes node))) (same_id id entry.id)
         (λ on. first_at nodes (later_entries first nodes are))
         (λ off. behind_at nodes (later_entries first nodes are))
-        ∙ sym (ap (λ b. option_and_then (entry_of layout) (cond b (first_in nodes) (next_in nodes node)))
+        ∙ sym (ap (λ b. option_and_then (node_entry layout) (cond b (first_in nodes) (next_in nodes node)))
         (same_entry layout sound.shaped sound.ids id node has first entry here.0.1 here.1)))
 
     -- an identifier is one of those of entries where its node is one of theirs
@@ -144,18 +144,18 @@ module _ (layout : TableLayout) where
 
 module _ (layout : TableLayout) (sound : IsSoundLayout layout) where
   -- the last entry
-  pub last_is : last_entry (joined_entries (sections_at layout)) ≡ option_and_then (entry_of layout) (last_behind None (entry_nodes layout))
+  pub last_is : last_entry (joined_entries (sections_at layout)) ≡ option_and_then (node_entry layout) (last_behind None (entry_nodes layout))
   last_is = ap (last_behind None) (entries_of_nodes layout sound.shaped) ∙ last_at layout None None (entry_nodes layout) refl (entry_at_node layout sound.shaped)
 
   module _ (id : Id) (node : NodeId) (has : has_key same_id ids_in layout id node ≡ true) where
     -- the entry before one
-    pub before_is : entry_before (joined_entries (sections_at layout)) id ≡ option_and_then (entry_of layout) (node_between None (entry_nodes layout) node)
+    pub before_is : entry_before (joined_entries (sections_at layout)) id ≡ option_and_then (node_entry layout) (node_between None (entry_nodes layout) node)
     before_is =
         ap (λ es. entry_before es id) (entries_of_nodes layout sound.shaped)
         ∙ before_at layout sound id node has None None (entry_nodes layout) refl (entry_at_node layout sound.shaped)
 
     -- and the one behind it
-    pub behind_is : entry_behind (joined_entries (sections_at layout)) id ≡ option_and_then (entry_of layout) (next_in (entry_nodes layout) node)
+    pub behind_is : entry_behind (joined_entries (sections_at layout)) id ≡ option_and_then (node_entry layout) (next_in (entry_nodes layout) node)
     behind_is = ap (λ es. entry_behind es id) (entries_of_nodes layout sound.shaped) ∙ behind_at layout sound id node has (entry_nodes layout) (entry_at_node layout sound.shaped)
 
   -- an identifier without an entry has none beside it

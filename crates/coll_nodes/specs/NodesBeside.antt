@@ -50,5 +50,5 @@ before_among layout ring before (section ∷ sections) =
     else before_among layout ring (last_behind before (read_at (entry_nodes_in layout) layout section)) sections
 
 -- the entry that a node of a layout is
-abbrev pub entry_of : TableLayout → NodeId → Option Entry
-entry_of layout node = option_and_then entry_if (content_of layout node)
+abbrev pub node_entry : TableLayout → NodeId → Option Entry
+node_entry layout node = option_and_then entry_if (content_of layout node)

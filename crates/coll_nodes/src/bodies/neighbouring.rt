@@ -30,7 +30,7 @@ impl Body {
     ghost use Rattle.coll_order.specs.Layout.{is_in};
     ghost use Rattle.coll_syntax.specs.Identifier.{same_id};
     ghost use Rattle.coll_nodes.specs.Beside.{entry_before, entry_behind, last_entry, section_name};
-    ghost use Rattle.coll_nodes.specs.NodesBeside as beside;
+    ghost use Rattle.coll_nodes.specs.NodesBeside.{node_entry};
     ghost use Rattle.coll_nodes.specs.SoundBodies.{has_key, ids_in};
     ghost use Rattle.coll_nodes.specs.Table.{is_placed_in, joined_entries};
     ghost use Rattle.coll_nodes.specs.TableLayout.{sections_at};
@@ -87,7 +87,7 @@ impl Body {
     // The entry that a node is, if it is one.
     fn entry_at(&self, node: NodeId) -> Option<&Entry>
         requires { is_in self.now.layout.rings node ≡ true }
-        ensures { option_copied result ≡ beside.entry_of self.now.layout node }
+        ensures { option_copied result ≡ node_entry self.now.layout node }
     {
         self.lemma_layout();
         entry_of(self.nodes.content(node))
