@@ -1,12 +1,11 @@
 -- What the characters of texts weigh decides their order.
-use Rattle.std.proofs.Common.{◌≡◌, inl, inr, ⊎_elim, ℕ, zero, suc, ◌+◌, ◌<◌, ◌≤◌, ◌==◌, Bool, true, false, List, [], ◌∷◌, ◌++◌, length, map, Option, None, Some, All, chars, refl, sym, ap, subst, ◌∙◌, append_assoc, arith, drop, get_or}
+use Rattle.std.proofs.Common.{◌≡◌, inl, inr, ⊎_elim, ℕ, zero, suc, ◌+◌, ◌<◌, ◌≤◌, Bool, true, false, List, [], ◌∷◌, ◌++◌, length, map, Option, None, Some, All, chars, refl, sym, ap, subst, ◌∙◌, append_assoc, arith, drop, get_or}
 use Rattle.std.specs.Prelude.{IfSome, slice_index_or}
 use Rattle.std.specs.List.{flat_map}
-use Rattle.std.specs.Ordering.{is_ne, nat_cmp, ordering_reverse, ordering_then}
+use Rattle.std.specs.Ordering.{is_ne, nat_cmp, ordering_then}
 use Rattle.std.specs.declared.cmp.Ordering.{Ordering}
 use Rattle.std.specs.declared.cmp.Ordering.TheVariants.{Less, Equal, Greater}
 use Rattle.std.specs.Cmp.{nat_cmp_is}
-use Rattle.std.proofs.lemmas.Cmp.{nat_list_cmp_total}
 use Rattle.std.proofs.lemmas.List.{map-append}
 use Rattle.std.proofs.lemmas.List.Elements.{All-append, All-cons, All-nil}
 use Rattle.std.specs.Str.{IsUtf8}
@@ -34,12 +33,12 @@ use Rattle.coll_key.specs.TextOrder.{level_lists, list_order, order_of}
 use Rattle.coll_words.specs.ElementMarks.{AreAlone, AreMarks, GoesOnOther, GoesOnOtherAt, IsAloneAt, IsApart, IsApartAt, IsSameAt, StandsAlone}
 use Rattle.coll_words.proofs.LevelNumberLemmas.{gaps_tell_nothing}
 use Rattle.coll_words.proofs.MarkLemmas.{stands_apart}
-use Rattle.coll_words.specs.LetterWeights.{DecidesBoth, GoesOn, IsFirstLetter, IsLetterRow, IsLevelOrder, IsRowOf, IsStep, IsStepAtEnd, IsStepOfBoth, OrdersAlike, OrdersSo, list_behind, order_at_end, order_behind, text_items, text_numbers}
+use Rattle.coll_words.specs.LetterWeights.{DecidesBoth, GoesOn, IsFirstLetter, IsLetterRow, IsLevelOrder, IsRowOf, IsStep, IsStepAtEnd, IsStepOfBoth, OrdersAlike, OrdersAlikeAt, OrdersSo, PassesOne, list_behind, order_at_end, order_behind, text_items, text_numbers}
 use Rattle.coll_words.specs.declared.element_marks.ElementMarks.{ElementMarks}
 use Rattle.coll_words.specs.declared.letter_weights.FirstLetter.{FirstLetter}
 use Rattle.coll_words.specs.declared.letter_weights.LetterRow.{LetterRow}
 use Rattle.coll_words.specs.declared.letter_weights.LetterStep.{LetterStep}
-use Rattle.coll_words.specs.declared.letter_weights.LetterStep.TheVariants.{Decided, Later, Unknown}
+use Rattle.coll_words.specs.declared.letter_weights.LetterStep.TheVariants.{Decided, Later, PassedFirst, PassedSecond, Unknown}
 
 -- One level after another.
 
@@ -64,16 +63,23 @@ level_orders_at table level rule text other order forward orders =
 
 -- the same where it is told of what is left of both texts
 pub level_orders_behind : (table : Collation) (level : ℕ) (rule : Rule) (text other left right : List ℕ) (found : Option Ordering) → rule.backward ≡ false
-    → OrdersAlike table level text other left right → IfSome found (λ order. order ≡ order_behind table level rule.position 0 left right) → IfSome found (IsLevelOrder table level rule text other)
+    → OrdersAlikeAt table level rule.position text other left right → IfSome found (λ order. order ≡ order_behind table level rule.position 0 left right) → IfSome found (IsLevelOrder table level rule text other)
 level_orders_behind table level rule text other left right None forward alike orders = tt
 level_orders_behind table level rule text other left right (Some order) forward alike orders =
-    let one = alike rule.position 0 in
+    let one = alike 0 in
     level_orders_at table level rule text other order forward (orders ∙ sym (one.1 ∙ gaps_tell_nothing table level rule.position one.0 left right))
 
 -- or whatever gaps came before
 pub level_orders : (table : Collation) (level : ℕ) (rule : Rule) (text other : List ℕ) (order : Ordering) → rule.backward ≡ false → OrdersSo table level text other order
     → IsLevelOrder table level rule text other order
 level_orders table level rule text other order forward orders = level_orders_at table level rule text other order forward (orders rule.position 0)
+
+-- the same where it is told of what is left of both texts
+pub level_orders_left : (table : Collation) (level : ℕ) (rule : Rule) (text other left right : List ℕ) (order : Ordering) → rule.backward ≡ false
+    → OrdersAlikeAt table level rule.position text other left right → OrdersSo table level left right order → IsLevelOrder table level rule text other order
+level_orders_left table level rule text other left right order forward alike orders =
+    let one = alike 0 in
+    level_orders_at table level rule text other order forward (orders rule.position one.0 ∙ sym one.1)
 
 -- and how one that is looked at from the back does, by rows
 pub level_orders_by_rows : (table : Collation) (level : ℕ) (rule : Rule) (f : ElementRow → List ℕ) (weights : WeightsValue) → ((row : ElementRow) → f row ≡ row_numbers weights level row)
@@ -252,6 +258,20 @@ alike_on table level text other later others last last_other first second = λ p
     let two = second position one.0 in
     (two.0, one.1 ∙ two.1)
 
+-- the same with positions, or without
+pub alike_at : (table : Collation) (level : ℕ) (position : Bool) (text other later others last last_other : List ℕ) → OrdersAlikeAt table level position text other later others
+    → OrdersAlikeAt table level position later others last last_other → OrdersAlikeAt table level position text other last last_other
+alike_at table level position text other later others last last_other first second = λ gaps.
+    let one = first gaps in
+    let two = second one.0 in
+    (two.0, one.1 ∙ two.1)
+
+-- without positions gaps tell nothing
+gaps_unseen : (gaps after : ℕ) (xs : List (Option ℕ)) → listed false gaps xs ≡ listed false after xs
+gaps_unseen gaps after [] = refl
+gaps_unseen gaps after (None ∷ xs) = gaps_unseen (suc gaps) (suc after) xs
+gaps_unseen gaps after (Some n ∷ xs) = refl
+
 -- an order that is told of what is left
 pub orders_before : (table : Collation) (level : ℕ) (text other later others : List ℕ) (order : Ordering) → OrdersAlike table level text other later others
     → OrdersSo table level later others order → OrdersSo table level text other order
@@ -281,6 +301,7 @@ module _ (table : Collation) (level : ℕ) where
                   ∙ ap (list_order (listed position gaps (items_of numbers ++ flat_map items_of (text_numbers table level rest)))) second ∙ one.1,
             );
         shorter = omega (arith, ap length is);
+        shorter_other = omega (arith, ap length other_is);
       }
 
   -- what both begin with, byte by byte, leaves it to what comes later
@@ -312,21 +333,25 @@ module _ (table : Collation) (level : ℕ) where
   less_at_end [] = refl
   less_at_end (x ∷ xs) = refl
 
-  pub step_greater : (text other : List ℕ) (step : LetterStep) → other ≡ [] → IsStepAtEnd table level text Greater step → IsStep table level text other step
-  step_greater text other (Decided order) ended ends = λ position gaps.
+  pub step_greater : (plain : Bool) (text other : List ℕ) (step : LetterStep) → other ≡ [] → IsStepAtEnd table level text Greater step → IsStep table level plain text other step
+  step_greater plain text other (Decided order) ended ends = λ position gaps.
       ends position gaps ∙ greater_at_end (list_behind table level position gaps text)
       ∙ sym (ap (λ (l : List ℕ). list_order (list_behind table level position gaps text) (list_behind table level position gaps l)) ended
       ∙ ap (list_order (list_behind table level position gaps text)) (none_behind table level position gaps))
-  step_greater text other (Later later others) ended ends = absurd ends
-  step_greater text other Unknown ended ends = tt
+  step_greater plain text other (Later later others) ended ends = absurd ends
+  step_greater plain text other (PassedFirst later) ended ends = absurd ends
+  step_greater plain text other (PassedSecond others) ended ends = absurd ends
+  step_greater plain text other Unknown ended ends = tt
 
-  pub step_less : (text other : List ℕ) (step : LetterStep) → text ≡ [] → IsStepAtEnd table level other Less step → IsStep table level text other step
-  step_less text other (Decided order) ended ends = λ position gaps.
+  pub step_less : (plain : Bool) (text other : List ℕ) (step : LetterStep) → text ≡ [] → IsStepAtEnd table level other Less step → IsStep table level plain text other step
+  step_less plain text other (Decided order) ended ends = λ position gaps.
       ends position gaps ∙ less_at_end (list_behind table level position gaps other)
       ∙ sym (ap (λ (l : List ℕ). list_order (list_behind table level position gaps l) (list_behind table level position gaps other)) ended
       ∙ ap (λ (l : List ℕ). list_order l (list_behind table level position gaps other)) (none_behind table level position gaps))
-  step_less text other (Later later others) ended ends = absurd ends
-  step_less text other Unknown ended ends = tt
+  step_less plain text other (Later later others) ended ends = absurd ends
+  step_less plain text other (PassedFirst later) ended ends = absurd ends
+  step_less plain text other (PassedSecond others) ended ends = absurd ends
+  step_less plain text other Unknown ended ends = tt
 
   -- no text has no numbers
   pub none_at_end : (bytes : List ℕ) (wanted : Ordering) → bytes ≡ [] → (position : Bool) (gaps : ℕ) → Equal ≡ order_at_end wanted (list_behind table level position gaps (chars bytes))
@@ -343,14 +368,24 @@ module _ (table : Collation) (level : ℕ) where
         begin_behind text numbers (text_numbers table level (chars first.rest.now)) position gaps
         (is.numbers level within ∙ ap (λ (ns : List ℕ). ns ∷ text_numbers table level (chars first.rest.now)) (sym same))
 
-    pub step_both : (text other : List ℕ) (first second : FirstLetter) (ns ms : List ℕ) (step : LetterStep) → IsFirstLetter table weights text first → IsFirstLetter table weights other second
-        → ns ≡ row_numbers weights level first.row → ms ≡ row_numbers weights level second.row → IsStepOfBoth ns ms first second step → IsStep table level text other step
-    step_both text other first second ns ms (Decided order) is other_is n m steps = λ position gaps.
+    -- a character that is ignored is passed, where gaps aren't looked at
+    ignored_behind : (position : Bool) (text : List ℕ) (first : FirstLetter) (ns : List ℕ) (later : List ℕ) → IsFirstLetter table weights text first → ns ≡ row_numbers weights level first.row
+        → PassesOne position ns first later → (gaps : ℕ) → list_behind table level position gaps text ≡ list_behind table level position gaps (chars later)
+    ignored_behind position text first ns later is n one gaps =
+        begin_first text first ns is n position gaps
+        ∙ ap (λ (l : List ℕ). listed position gaps (items_of l ++ flat_map items_of (text_numbers table level (chars first.rest.now)))) one.none
+        ∙ subst (λ (p : Bool). listed p (suc gaps) (text_items table level (chars first.rest.now)) ≡ listed p gaps (text_items table level (chars first.rest.now))) (sym one.plain)
+        (gaps_unseen (suc gaps) gaps (text_items table level (chars first.rest.now)))
+        ∙ ap (λ (l : List ℕ). list_behind table level position gaps (chars l)) (sym one.rest_is)
+
+    pub step_both : (plain : Bool) (text other : List ℕ) (first second : FirstLetter) (ns ms : List ℕ) (step : LetterStep) → IsFirstLetter table weights text first → IsFirstLetter table weights other second
+        → ns ≡ row_numbers weights level first.row → ms ≡ row_numbers weights level second.row → IsStepOfBoth plain ns ms first second step → IsStep table level plain text other step
+    step_both plain text other first second ns ms (Decided order) is other_is n m steps = λ position gaps.
         steps position gaps (flat_map items_of (text_numbers table level (chars first.rest.now))) (flat_map items_of (text_numbers table level (chars second.rest.now)))
         ∙ ap (λ (l : List ℕ). list_order l (listed position gaps (items_of ms ++ flat_map items_of (text_numbers table level (chars second.rest.now)))))
         (sym (begin_first text first ns is n position gaps))
         ∙ ap (list_order (list_behind table level position gaps text)) (sym (begin_first other second ms other_is m position gaps))
-    step_both text other first second ns ms (Later later others) is other_is n m steps = record {
+    step_both plain text other first second ns ms (Later later others) is other_is n m steps = record {
       same = λ position gaps. (
         0,
         ap (λ (l : List ℕ). list_order l (list_behind table level position gaps other)) (begin_first text first ns is n position gaps)
@@ -360,8 +395,17 @@ module _ (table : Collation) (level : ℕ) where
             ∙ ap (λ (l : List ℕ). order_behind table level position 0 (chars later.now) (chars l)) (sym steps.other_is),
       );
       shorter = subst (λ (l : List ℕ). length (chars l) < length text) (sym steps.rest_is) is.shorter;
+      shorter_other = omega (arith, subst (λ (l : List ℕ). length (chars l) < length other) (sym steps.other_is) other_is.shorter);
     }
-    step_both text other first second ns ms Unknown is other_is n m steps = tt
+    step_both plain text other first second ns ms (PassedFirst later) is other_is n m steps = record {
+      same = λ gaps. (gaps, ap (λ (l : List ℕ). list_order l (list_behind table level plain gaps other)) (ignored_behind plain text first ns later.now is n steps gaps));
+      shorter = omega (arith, subst (λ (l : List ℕ). length (chars l) < length text) (sym steps.rest_is) is.shorter);
+    }
+    step_both plain text other first second ns ms (PassedSecond others) is other_is n m steps = record {
+      same = λ gaps. (gaps, ap (list_order (list_behind table level plain gaps text)) (ignored_behind plain other second ms others.now other_is m steps gaps));
+      shorter = omega (arith, subst (λ (l : List ℕ). length (chars l) < length other) (sym steps.rest_is) other_is.shorter);
+    }
+    step_both plain text other first second ns ms Unknown is other_is n m steps = tt
 
     single_at_end : (position : Bool) (gaps n : ℕ) (xs : List (Option ℕ)) (wanted : Ordering) → wanted ≡ order_at_end wanted (listed position gaps (items_of (n ∷ []) ++ xs))
     single_at_end true gaps n xs wanted = refl

@@ -1,11 +1,10 @@
 -- The steps along the numbers of two texts at a level.
-use Rattle.std.proofs.Common.{◌≡◌, ℕ, zero, suc, ◌+◌, ◌<◌, ◌≤◌, Bool, true, false, List, [], ◌∷◌, ◌++◌, length, map, reverse, Option, Some, refl, sym, ap, ◌∙◌, add-one, arith}
+use Rattle.std.proofs.Common.{◌≡◌, ℕ, zero, suc, ◌+◌, ◌<◌, Bool, true, false, List, [], ◌∷◌, ◌++◌, length, map, reverse, Option, Some, refl, sym, ap, ◌∙◌, add-one, arith}
 use Rattle.std.specs.Ordering.{is_ne, ordering_then}
 use Rattle.std.specs.declared.cmp.Ordering.{Ordering}
 use Rattle.std.specs.declared.cmp.Ordering.TheVariants.{Less, Equal, Greater}
 use Rattle.std.proofs.lemmas.List.{reverse-append}
 use Rattle.coll_nodes.specs.Table.{Collation}
-use Rattle.coll_ranks.specs.Ranks.{added_to}
 use Rattle.coll_key.specs.ForwardNumbers.{gap_count, items_left}
 use Rattle.coll_key.specs.LevelList.{items, listed}
 use Rattle.coll_key.specs.TextOrder.{list_order}

@@ -4,7 +4,7 @@ use Rattle.std.specs.List.{flat_map}
 use Rattle.std.specs.Prelude.{slice_index_or}
 use Rattle.std.specs.Ordering.{is_ne, nat_cmp}
 use Rattle.std.specs.declared.cmp.Ordering.{Ordering}
-use Rattle.std.specs.declared.cmp.Ordering.TheVariants.{Less, Greater}
+use Rattle.std.specs.declared.cmp.Ordering.TheVariants.{Less, Equal, Greater}
 use Rattle.std.specs.Str.{IsUtf8}
 use Rattle.std.proofs.lemmas.List.{drop_all}
 use Rattle.std.proofs.lemmas.Str.{chars-nil}
@@ -63,6 +63,7 @@ module _ (table : Collation) where
           ∙ singles_pass n m (n ∷ []) (m ∷ []) order refl refl order_is eq position gaps (flat_map items_of (text_numbers table 0 rest)) (flat_map items_of (text_numbers table 0 rest_other)),
     );
     shorter = is.shorter;
+    shorter_other = omega (arith, other_is.shorter);
   }
 
   single_at_end : (position : Bool) (gaps n : ℕ) (xs : List ℕ) (wanted : Ordering) (rest : List (List ℕ)) → wanted ≡ order_at_end wanted (listed position gaps (items_of (n ∷ []) ++ flat_map items_of rest))
@@ -115,13 +116,13 @@ module _ (table : Collation) (marks : ElementMarks) (are : AreMarks table marks)
   pub ended_less : (m : ℕ) → length text ≤ front → IsNumberAt table marks other front m → m ≢ 0 → OrdersSo table 0 (chars text) (chars other) Less
   ended_less m ended is above =
       orders_before table 0 (chars text) (chars other) (chars (drop front text)) (chars (drop front other)) Less behind_front
-      (step_less table 0 (chars (drop front text)) (chars (drop front other)) (Decided Less) (none_left text ended)
+      (step_less table 0 true (chars (drop front text)) (chars (drop front other)) (Decided Less) (none_left text ended)
       (number_at_end table (chars (drop front other)) (chars (drop (suc front) other)) m Less (second_behind m is above)))
 
   pub ended_greater : (n : ℕ) → length other ≤ front → IsNumberAt table marks text front n → n ≢ 0 → OrdersSo table 0 (chars text) (chars other) Greater
   ended_greater n ended is above =
       orders_before table 0 (chars text) (chars other) (chars (drop front text)) (chars (drop front other)) Greater behind_front
-      (step_greater table 0 (chars (drop front text)) (chars (drop front other)) (Decided Greater) (none_left other ended)
+      (step_greater table 0 true (chars (drop front text)) (chars (drop front other)) (Decided Greater) (none_left other ended)
       (number_at_end table (chars (drop front text)) (chars (drop (suc front) text)) n Greater (first_behind n is above)))
 
 -- The first level.
@@ -133,6 +134,12 @@ some_level (rule ∷ rules) forward = omega arith
 first_forward : (rules : List Rule) (d : Rule) → LooksForward rules → (get_or rules 0 d).backward ≡ false
 first_forward [] d forward = absurd forward
 first_forward (rule ∷ rules) d forward = forward
+
+-- what doesn't decide is no difference
+pub not_ne_equal : (order : Ordering) → false ≡ is_ne order → order ≡ Equal
+not_ne_equal Less eq = absurd cc
+not_ne_equal Equal eq = refl
+not_ne_equal Greater eq = absurd cc
 
 -- an order of the first level that decides is that of the texts
 pub first_level_decides : (table : Collation) (text other : List ℕ) (order : Ordering) → LooksForward table.rules → OrdersSo table 0 text other order → true ≡ is_ne order

@@ -1,5 +1,5 @@
 -- What characters weigh in a table, kept for the characters of words alone.
-use Rattle.std.specs.Prelude.{◌≡◌, ◌<◌, ℕ, Bool, List, [], ◌∷◌, ◌++◌, Option, All, length, map, chars}
+use Rattle.std.specs.Prelude.{◌≡◌, ◌<◌, ◌≤◌, ◌+◌, ℕ, Bool, false, List, [], ◌∷◌, ◌++◌, Option, All, length, map, chars}
 use Rattle.std.specs.List.{flat_map}
 use Rattle.std.specs.declared.cmp.Ordering.{Ordering}
 use Rattle.std.specs.declared.cmp.Ordering.TheVariants.{Equal}
@@ -18,7 +18,7 @@ use Rattle.coll_words.specs.FirstNumbers.{AreFirstNumbers}
 use Rattle.coll_words.specs.declared.letter_weights.FirstLetter.{FirstLetter}
 use Rattle.coll_words.specs.declared.letter_weights.LetterRow.{LetterRow}
 use Rattle.coll_words.specs.declared.letter_weights.LetterStep.{LetterStep}
-use Rattle.coll_words.specs.declared.letter_weights.LetterStep.TheVariants.{Decided, Later, Unknown}
+use Rattle.coll_words.specs.declared.letter_weights.LetterStep.TheVariants.{Decided, Later, PassedFirst, PassedSecond, Unknown}
 use Rattle.coll_words.specs.declared.letter_weights.LetterWeights.{LetterWeights}
 
 -- a row has the numbers of a character
@@ -58,9 +58,13 @@ abbrev pub order_behind : Collation → (level : ℕ) → (position : Bool) → 
 order_behind table level position gaps text other = list_order (list_behind table level position gaps text) (list_behind table level position gaps other)
 
 -- a level orders two texts as it orders two others, whatever gaps came before: behind the others' own beginning there are perhaps more
+abbrev pub OrdersAlikeAt : Collation → (level : ℕ) → (position : Bool) → (text other later others : List ℕ) → Type 0
+OrdersAlikeAt table level position text other later others =
+    (gaps : ℕ) → (after : ℕ) × (order_behind table level position gaps text other ≡ order_behind table level position after later others)
+
+-- the same with positions and without
 abbrev pub OrdersAlike : Collation → (level : ℕ) → (text other later others : List ℕ) → Type 0
-OrdersAlike table level text other later others =
-    (position : Bool) (gaps : ℕ) → (after : ℕ) × (order_behind table level position gaps text other ≡ order_behind table level position after later others)
+OrdersAlike table level text other later others = (position : Bool) → OrdersAlikeAt table level position text other later others
 
 -- a level orders two texts so, whatever gaps came before
 abbrev pub OrdersSo : Collation → (level : ℕ) → (text other : List ℕ) → Ordering → Type 0
@@ -75,11 +79,19 @@ IsLevelOrder table level rule text other order =
 pub record GoesOn (table : Collation) (level : ℕ) (text other later others : List ℕ) : Type 0 where
   pub same : OrdersAlike table level text other later others
   pub shorter : length later < length text
+  pub shorter_other : length others ≤ length other
 
-abbrev pub IsStep : Collation → (level : ℕ) → (text other : List ℕ) → LetterStep → Type 0
-IsStep table level text other (Decided order) = OrdersSo table level text other order
-IsStep table level text other (Later later others) = GoesOn table level text other (chars later.now) (chars others.now)
-IsStep table level text other Unknown = Unit {0}
+-- or one of them is passed, which is ignored there
+pub record Passes (table : Collation) (level : ℕ) (position : Bool) (text other later others : List ℕ) : Type 0 where
+  pub same : OrdersAlikeAt table level position text other later others
+  pub shorter : length later + length others < length text + length other
+
+abbrev pub IsStep : Collation → (level : ℕ) → (position : Bool) → (text other : List ℕ) → LetterStep → Type 0
+IsStep table level position text other (Decided order) = OrdersSo table level text other order
+IsStep table level position text other (Later later others) = GoesOn table level text other (chars later.now) (chars others.now)
+IsStep table level position text other (PassedFirst later) = Passes table level position text other (chars later.now) other
+IsStep table level position text other (PassedSecond others) = Passes table level position text other text (chars others.now)
+IsStep table level position text other Unknown = Unit {0}
 
 -- the numbers of two elements decide the order of what begins with them
 abbrev pub DecidesBoth : (numbers others : List ℕ) → Ordering → Type 0
@@ -95,10 +107,18 @@ pub record LeavesBoth (numbers others : List ℕ) (first second : FirstLetter) (
   pub rest_is : rest ≡ first.rest.now
   pub other_is : other_rest ≡ second.rest.now
 
-abbrev pub IsStepOfBoth : (numbers others : List ℕ) → (first second : FirstLetter) → LetterStep → Type 0
-IsStepOfBoth numbers others first second (Decided order) = DecidesBoth numbers others order
-IsStepOfBoth numbers others first second (Later later rest) = LeavesBoth numbers others first second later.now rest.now
-IsStepOfBoth numbers others first second Unknown = Unit {0}
+-- or one of them has none, and gaps aren't looked at
+pub record PassesOne (position : Bool) (numbers : List ℕ) (first : FirstLetter) (rest : List ℕ) : Type 0 where
+  pub none : numbers ≡ []
+  pub plain : position ≡ false
+  pub rest_is : rest ≡ first.rest.now
+
+abbrev pub IsStepOfBoth : (position : Bool) → (numbers others : List ℕ) → (first second : FirstLetter) → LetterStep → Type 0
+IsStepOfBoth position numbers others first second (Decided order) = DecidesBoth numbers others order
+IsStepOfBoth position numbers others first second (Later later rest) = LeavesBoth numbers others first second later.now rest.now
+IsStepOfBoth position numbers others first second (PassedFirst later) = PassesOne position numbers first later.now
+IsStepOfBoth position numbers others first second (PassedSecond rest) = PassesOne position others second rest.now
+IsStepOfBoth position numbers others first second Unknown = Unit {0}
 
 -- the order of a list and an empty one, where this is that of a longer list and an empty one
 abbrev pub order_at_end : (wanted : Ordering) → List ℕ → Ordering
@@ -110,4 +130,6 @@ abbrev pub IsStepAtEnd : Collation → (level : ℕ) → (text : List ℕ) → O
 IsStepAtEnd table level text wanted (Decided order) =
     (position : Bool) (gaps : ℕ) → order ≡ order_at_end wanted (list_behind table level position gaps text)
 IsStepAtEnd table level text wanted (Later later rest) = ⊥
+IsStepAtEnd table level text wanted (PassedFirst later) = ⊥
+IsStepAtEnd table level text wanted (PassedSecond rest) = ⊥
 IsStepAtEnd table level text wanted Unknown = Unit {0}

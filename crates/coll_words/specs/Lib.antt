@@ -3,6 +3,7 @@ pub mod Declaring
 pub mod ElementMarks
 pub mod FirstKeys
 pub mod FirstNumbers
+pub mod FirstOrders
 pub mod KeptWords
 pub mod KeyLeads
 pub mod KeyedWords

@@ -4,16 +4,17 @@
 //! each character its number there is kept, if it has a single one, and two words are compared along these numbers alone: at each
 //! character that takes one look-up and no cell of weights. The numbers of ASCII stand in a list by code point: where both words have
 //! such characters behind the bytes that they share, these are compared as bytes, and nothing is decoded. What isn't decided so is left
-//! to the levels (`letter_weights`).
+//! to the levels (`letter_weights`), with what was seen: how many bytes they share, and whether this level doesn't tell them apart.
 
 ghost use Rattle.std.specs.Prelude.{◌≡◌, ◌≢◌, ◌<◌, ◌∷◌, [], ℕ, All, chars, length, slice_index_or, true, IfOk, IfSome};
 ghost use Rattle.std.specs.Ordering.{is_ne};
 ghost use Rattle.coll_nodes.specs.TableLayout.{collation};
 ghost use Rattle.coll_ranks.specs.LevelWeights.{level_numbers};
-ghost use Rattle.coll_key.specs.TextOrder.{order_of};
 ghost use Rattle.coll_words.specs.ElementMarks.{AreMarks, IsSameAt};
 ghost use Rattle.coll_words.specs.FirstNumbers.{AreFirstNumbers, AreNumbersByCode, IsFirstNumber, IsNumberAt, IsNumberOf, LooksForward};
+ghost use Rattle.coll_words.specs.FirstOrders.{IsFirstOrder};
 ghost use Rattle.coll_words.specs.LetterWeights.{IsLetterRow, IsStep, IsStepAtEnd, OrdersSo};
+ghost use Rattle.coll_words.specs.declared.first_numbers.FirstOrder.TheVariants.{Untold};
 
 use crate::element_marks::ElementMarks;
 use crate::letter_weights::{
@@ -24,6 +25,24 @@ use coll_ranks::{ElementRow, LevelWeights, TextWeights, WeightRanks};
 use coll_table::Table;
 use std::alloc::{AllocError, Global};
 use std::cmp::Ordering;
+
+/// What was seen of two texts of which single numbers don't tell the order.
+#[derive(Clone, Copy)]
+pub(crate) struct SeenFirst {
+    /// Both begin with so many of the same bytes, each a character by itself with which no element begins.
+    pub front: usize,
+    /// Whether it was seen that the first level doesn't tell them apart.
+    pub alike: bool,
+}
+
+/// What single numbers of the first level tell of two texts.
+#[derive(Clone, Copy)]
+pub(crate) enum FirstOrder {
+    /// Their order.
+    Told(Ordering),
+    /// No order, but this.
+    Untold(SeenFirst),
+}
 
 /// A character, and its number at the first level.
 #[derive(Clone, Copy)]
@@ -84,23 +103,27 @@ impl FirstNumbers {
         marks: &ElementMarks,
         text: &str,
         other: &str,
-    ) -> Option<Ordering>
+    ) -> FirstOrder
         requires numbers { AreFirstNumbers (collation table.now) self.now }
         requires marks { AreMarks (collation table.now) marks.now }
-        ensures { IfSome result (λ order. order ≡ order_of (collation table.now) (chars text.now) (chars other.now)) }
+        ensures { IsFirstOrder (collation table.now) marks.now text.now other.now result }
     {
         if !self.forward {
-            return None;
+            return untold(0, false);
         }
         let front = marks.same_front(text, other);
         if let Some(order) = self.order_at(table, marks, text, other, front) {
-            return Some(order);
+            return FirstOrder::Told(order);
         }
-        let order = self.first_order(table, places, marks, text, other, front)?;
-        if order.is_ne() {
-            return Some(order);
+        match self.first_order(table, places, marks, text, other, front) {
+            Some(order) => {
+                if order.is_ne() {
+                    return FirstOrder::Told(order);
+                }
+                untold(front, true)
+            }
+            None => untold(front, false),
         }
-        None
     }
 
     // The order of two texts, if the numbers of the bytes behind what both begin with tell it, or one of them ends there.
@@ -191,7 +214,7 @@ impl FirstNumbers {
                     left = next;
                     right = next_other;
                 }
-                LetterStep::Unknown => return None,
+                _ => return None,
             }
         }
     }
@@ -209,7 +232,7 @@ impl FirstNumbers {
         requires numbers { AreFirstNumbers (collation table.now) self.now }
         requires marks { AreMarks (collation table.now) marks.now }
         requires level { 0 < length (collation table.now).rules }
-        ensures { IsStep (collation table.now) 0 (chars left.now) (chars right.now) result }
+        ensures { IsStep (collation table.now) 0 true (chars left.now) (chars right.now) result }
     {
         let Some((first, later)) = split_first_char(left) else {
             return self.step_at_end(table, places, marks, right, Ordering::Less);
@@ -288,6 +311,14 @@ impl FirstNumbers {
         }
         0
     }
+}
+
+// No order, but this was seen.
+#[inline(always)]
+fn untold(front: usize, alike: bool) -> FirstOrder
+    ensures { result ≡ Untold (record { front = front; alike = alike }) }
+{
+    FirstOrder::Untold(SeenFirst { front, alike })
 }
 
 // The numbers of characters that have these rows, behind one that is nobody's.

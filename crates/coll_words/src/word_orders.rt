@@ -11,10 +11,12 @@ ghost use Rattle.coll_nodes.specs.TableLayout.{collation};
 ghost use Rattle.coll_key.specs.SortKey.{key_of};
 ghost use Rattle.coll_key.specs.TextOrder.{order_of};
 ghost use Rattle.coll_words.specs.ElementMarks.{AreMarks};
+ghost use Rattle.coll_words.specs.FirstOrders.{IsSeen};
 ghost use Rattle.coll_words.specs.WordOrders.{AreApart, MayServe, Serves};
 ghost use Rattle.coll_words.specs.declared.word_orders.WordOrder.TheVariants.{ByLetters};
 
 use crate::element_marks::ElementMarks;
+use crate::first_numbers::{FirstOrder, SeenFirst};
 use crate::letter_weights::LetterWeights;
 use crate::letters::Letters;
 use crate::listed_words::ListedWord;
@@ -38,8 +40,8 @@ const ENTRIES_A_LETTER: usize = 32;
 // first comparison on, since keys are made of all of them where many words move.
 const ENTRIES_A_JOINED_BYTE: usize = 32;
 
-// For so many entries of the table one number of a key, or one byte of its word, is paid for behind a statement, where words are compared
-// by keys since one may hold an element. All of them take about a tenth of the time that the ranks take.
+// For so many entries of the table one number of a key, or one look-up of what a byte of its word may begin, is paid for behind a
+// statement, where words are compared by keys since one may hold an element. All of them take about a tenth of the time that ranks take.
 const ENTRIES_A_KEY_NUMBER: usize = 4;
 
 /// What is kept for a list of words from statement to statement.
@@ -64,7 +66,7 @@ pub(crate) struct LetterOrder<'a> {
     pub joined: bool,
     /// The places of the table's entries.
     pub numbers: &'a EntryNumbers,
-    /// How many numbers and bytes are still paid for in keys of words that may hold an element.
+    /// How many numbers and look-ups are still paid for in keys of words that may hold an element.
     pub left: usize,
     /// The ranks of the whole table, once nothing was left.
     pub ranks: Option<Ranks>,
@@ -90,7 +92,7 @@ impl Looks {
     }
 
     /// Tells that ranks were made after keys: behind later statements half as many keys come before them.
-    pub fn count_ranks(&mut self) {
+    pub fn note_ranks_made(&mut self) {
         self.made_ranks = self.made_ranks.saturating_add(1);
     }
 }
@@ -151,7 +153,7 @@ pub(crate) fn give_back(
     }
 }
 
-// How many numbers and bytes are paid for in keys behind a statement, where ranks were made after keys behind so many.
+// How many numbers and look-ups are paid for in keys behind a statement, where ranks were made after keys behind so many.
 fn numbers_paid_for(table: &Table, made_ranks: u32) -> usize {
     let paid = table.len() / ENTRIES_A_KEY_NUMBER;
     match paid.checked_shr(made_ranks) {
@@ -330,16 +332,16 @@ fn order_by_letters(
     ensures order { IfOk result (λ order. order ≡ order_of (collation table.now) (chars text.now) (chars other.now)) }
     ensures serves { Serves (ByLetters letters.new) table.now }
 {
-    if let Some(order) = letters
+    match letters
         .weights
         .first_order(table, letters.places, text, other)
     {
-        return Ok(order);
+        FirstOrder::Told(order) => Ok(order),
+        FirstOrder::Untold(seen) => order_beyond_first(alloc, table, letters, text, other, seen),
     }
-    order_beyond_first(alloc, table, letters, text, other)
 }
 
-// The same, where single numbers don't tell it.
+// The same, where single numbers don't tell it, but this was seen.
 #[inline(never)]
 fn order_beyond_first(
     alloc: Global,
@@ -347,14 +349,16 @@ fn order_beyond_first(
     letters: &mut LetterOrder<'_>,
     text: &str,
     other: &str,
+    seen: SeenFirst,
 ) -> Result<Ordering, KeyFault>
-    requires { Serves (ByLetters letters.old) table.now }
+    requires serves { Serves (ByLetters letters.old) table.now }
+    requires seen { IsSeen (collation table.now) letters.old.weights.marks text.now other.now seen }
     ensures order { IfOk result (λ order. order ≡ order_of (collation table.now) (chars text.now) (chars other.now)) }
     ensures serves { Serves (ByLetters letters.new) table.now }
 {
     if let Some(order) = letters
         .weights
-        .order(alloc, table, letters.places, text, other)?
+        .order(alloc, table, letters.places, text, other, seen)?
     {
         return Ok(order);
     }
@@ -387,8 +391,11 @@ fn order_by_keys(
     let key = key_by_letters(alloc, table, letters, text)?;
     let other_key = key_by_letters(alloc, table, letters, other)?;
     let bytes = text.len().saturating_add(other.len());
+    let looked_up = bytes.saturating_mul(table.most_element_characters().max(1));
     let numbers = key.len().saturating_add(other_key.len());
-    letters.left = letters.left.saturating_sub(bytes.saturating_add(numbers));
+    letters.left = letters
+        .left
+        .saturating_sub(looked_up.saturating_add(numbers));
     Ok(key.cmp(&other_key))
 }
 

@@ -20,6 +20,11 @@ returns-clause-shorter c =
     subst (λ (l : List ℕ). length (chars l) ≤ length (chars c.args.text.now)) (sym c.in-Some.ensures.back)
     (behind_bytes c.args._marks.now c.args.front c.args.text.now c.utf8.text (λ k within. (c.requires.front k within).first)).shorter
 
+pub returns-clause-shorter_other : goal.returns-clause-shorter_other
+returns-clause-shorter_other c =
+    subst (λ (l : List ℕ). length (chars l) ≤ length (chars c.args.other.now)) (sym c.in-Some-split_at_checked.ensures.back)
+    (behind_bytes c.args._marks.now c.args.front c.args.other.now c.utf8.other (λ k within. (c.requires.front k within).second)).shorter
+
 pub returns-then-front-eq0-clause-same : goal.returns-then-front-eq0-clause-same
 returns-then-front-eq0-clause-same c = λ position gaps. (gaps, refl)
 

@@ -1,5 +1,5 @@
 -- The first characters of both are the same, or their numbers are looked at; or one text has ended.
-use Rattle.std.proofs.Common.{chars, sym}
+use Rattle.std.proofs.Common.{chars, sym, true}
 use Rattle.coll_nodes.specs.TableLayout.{collation}
 use Rattle.coll_words.proofs.LetterLemmas.{step_greater, step_less, step_same}
 use Rattle.coll_words.proofs.MarkLemmas.{stands_apart}
@@ -8,11 +8,11 @@ use Rattle.coll_words.proofs.first_numbers.FirstNumbers.step.Goals as goal
 
 pub returns-in_default : goal.returns-in_default
 returns-in_default c =
-    step_less (collation c.args.table.now) 0 (chars c.args.left.now) (chars c.args.right.now) c.step_at_end.result c.in_default.ensures c.step_at_end.ensures
+    step_less (collation c.args.table.now) 0 true (chars c.args.left.now) (chars c.args.right.now) c.step_at_end.result c.in_default.ensures c.step_at_end.ensures
 
 pub returns-in_default-split_first_char : goal.returns-in_default-split_first_char
 returns-in_default-split_first_char c =
-    step_greater (collation c.args.table.now) 0 (chars c.args.left.now) (chars c.args.right.now) c.step_at_end-in_default-split_first_char.result c.in_default-split_first_char.ensures
+    step_greater (collation c.args.table.now) 0 true (chars c.args.left.now) (chars c.args.right.now) c.step_at_end-in_default-split_first_char.result c.in_default-split_first_char.ensures
     c.step_at_end-in_default-split_first_char.ensures
 
 pub returns-then-is_apart : goal.returns-then-is_apart

@@ -9,11 +9,11 @@ use Rattle.coll_words.proofs.letter_weights.LetterWeights.step.Goals as goal
 
 pub returns-in_default : goal.returns-in_default
 returns-in_default c =
-    step_less (collation c.args.table.now) c.args.level (chars c.args.left.now) (chars c.args.right.now) c.step_at_end.result c.in_default.ensures c.step_at_end.ensures
+    step_less (collation c.args.table.now) c.args.level c.args.position (chars c.args.left.now) (chars c.args.right.now) c.step_at_end.result c.in_default.ensures c.step_at_end.ensures
 
 pub returns-in_default-split_first_char : goal.returns-in_default-split_first_char
 returns-in_default-split_first_char c =
-    step_greater (collation c.args.table.now) c.args.level (chars c.args.left.now) (chars c.args.right.now) c.step_at_end-in_default-split_first_char.result
+    step_greater (collation c.args.table.now) c.args.level c.args.position (chars c.args.left.now) (chars c.args.right.now) c.step_at_end-in_default-split_first_char.result
     c.in_default-split_first_char.ensures c.step_at_end-in_default-split_first_char.ensures
 
 pub returns-then-is_apart : goal.returns-then-is_apart
@@ -31,7 +31,7 @@ returns c =
     let right = chars c.args.right.now in
     let first : FirstLetter = record { row = c.in-Some-row.row; rest = c.in-Some.later } in
     let second : FirstLetter = record { row = c.in-Some-row-2.other_row; rest = c.in-Some-split_first_char.others } in
-    step_both table c.args.level weights c.requires.within left right first second (level_numbers c.args.at_level first.row) (level_numbers c.args.at_level second.row) c.step_of_both.result
+    step_both table c.args.level weights c.requires.within c.args.position left right first second (level_numbers c.args.at_level first.row) (level_numbers c.args.at_level second.row) c.step_of_both.result
     (record {
       numbers = letter_first table weights c.in-Some.first first.row left (chars first.rest.now) c.in-Some.ensures
           (stands_apart (collation c.args.table.now) c.args.self.now.marks c.requires.weights.marks c.in-Some.first (chars first.rest.now) (c.is_apart.ensures c.if-not-is_apart.false)) c.in-Some-row.ensures;
