@@ -46,7 +46,7 @@ def proved(crate, below, jobs):
     Returns whether it is proved.
     """
     with tempfile.TemporaryDirectory(prefix="prove-") as room:
-        copied(room, [*below, crate])
+        copied(room, [*below, crate], KEPT)
         folder = f"{room}/crates/{crate}"
         try:
             return told(crate, ["lib", *jobs], folder) == 0

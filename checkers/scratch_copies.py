@@ -1,4 +1,4 @@
-"""Scratch copies of the repository with what its checks kept, in which crates are checked side by side."""
+"""Scratch copies of the repository, in which crates are checked side by side."""
 
 import os
 import re
@@ -31,8 +31,9 @@ def libraries():
     return {name: of(name) for name in sorted(listed, key=lambda it: len(of(it)))}
 
 
-def copied(room, crates=None):
-    """Copies the repository, or some of its crates, with what its checks kept, which is linked, since it is only ever replaced."""
+def copied(room, crates=None, kept=()):
+    """Copies the repository, or some of its crates, with these parts of what its checks kept, which are linked, since they are only ever
+    replaced."""
     crates = crates or list(libraries())
     os.makedirs(f"{room}/crates")
     with open(f"{ROOT}/crates.txt", encoding="utf-8") as lines, open(f"{room}/crates.txt", "w", encoding="utf-8") as cut:
@@ -42,7 +43,7 @@ def copied(room, crates=None):
         for part in PARTS:
             if os.path.isdir(f"{ROOT}/crates/{crate}/{part}"):
                 shutil.copytree(f"{ROOT}/crates/{crate}/{part}", f"{room}/crates/{crate}/{part}")
-        for part in KEPT:
+        for part in kept:
             if os.path.isdir(f"{ROOT}/crates/{crate}/out/{part}"):
                 shutil.copytree(f"{ROOT}/crates/{crate}/out/{part}", f"{room}/crates/{crate}/out/{part}", copy_function=linked)
 

@@ -4,10 +4,10 @@
 usage: checkers/try_edits.py [CRATE..]
 
 All crates are meant where none is named. First the crates are proved, over what earlier checks kept. Then as many edits are tried side
-by side as there are cores and memory, each in a scratch copy of the repository: the modules that it changes are checked alone, and
-the whole crate where these are still proved. What was refused is remembered outside the repository, in ~/.cache/collbench/edits (or
-under XDG_CACHE_HOME), by a hash of the edit, its crate and those below, so a run may be broken off and go on later. The status is 1
-where an edit was not refused.
+by side as there are cores and memory, each in a scratch copy of the repository, where checks begin with what those here kept: the modules
+that it changes are checked alone, and the whole crate where these are still proved. What was refused is remembered outside the
+repository, in ~/.cache/collbench/edits (or under XDG_CACHE_HOME), by a hash of the edit, its crate and those below, so a run may be broken
+off and go on later. The status is 1 where an edit was not refused.
 """
 
 import glob
