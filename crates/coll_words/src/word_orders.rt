@@ -400,7 +400,7 @@ fn order_by_keys(
 }
 
 /// Whether the order of words may be guessed: they are their characters, which have rows, and the first level is looked at from the
-/// front. A guess is looked at once more, so a list with words that may hold an element goes without.
+/// front and has no positions. A guess is looked at once more, so a list with words that may hold an element goes without.
 pub(crate) fn can_guess(table: &Table, order: &WordOrder<'_>) -> bool {
     match order {
         WordOrder::ByRanks(_) => false,
