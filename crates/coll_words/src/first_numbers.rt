@@ -115,6 +115,9 @@ impl FirstNumbers {
         if let Some(order) = self.order_at(table, marks, text, other, front) {
             return FirstOrder::Told(order);
         }
+        if self.is_unnumbered(text, front) || self.is_unnumbered(other, front) {
+            return untold(front, false);
+        }
         match self.first_order(table, places, marks, text, other, front) {
             Some(order) => {
                 if order.is_ne() {
@@ -184,6 +187,15 @@ impl FirstNumbers {
         match self.ascii.get(bytes[place] as usize) {
             Some(number) => *number,
             None => 0,
+        }
+    }
+
+    // Whether at a place of a text a character of ASCII stands that has no single number, so that numbers tell no order from there on.
+    #[inline(always)]
+    fn is_unnumbered(&self, text: &str, place: usize) -> bool {
+        match text.as_bytes().get(place) {
+            Some(byte) => self.ascii.get(*byte as usize) == Some(&0),
+            None => false,
         }
     }
 
@@ -267,7 +279,8 @@ impl FirstNumbers {
         LetterStep::Later(later, others)
     }
 
-    // The same where one text has ended: where this one goes on with a number, the order is this.
+    // The same where one text has ended: where this one has too, none comes before the other, and where it goes on with a number, the
+    // order is this.
     #[inline(always)]
     fn step_at_end<'a, 'b>(
         &self,
@@ -282,6 +295,9 @@ impl FirstNumbers {
         requires level { 0 < length (collation table.now).rules }
         ensures { IsStepAtEnd (collation table.now) 0 (chars text.now) order result }
     {
+        if text.is_empty() {
+            return LetterStep::Decided(Ordering::Equal);
+        }
         let Some((first, later)) = split_first_char(text) else {
             return LetterStep::Unknown;
         };

@@ -368,6 +368,22 @@ fn order_beyond_first(
     if letters.left > 0 {
         return order_by_keys(alloc, table, letters, text, other);
     }
+    order_by_new_ranks(alloc, table, letters, text, other)
+}
+
+// The order of two words by ranks of the whole table, which are made for it and kept. The room of these is not that of each comparison.
+#[inline(never)]
+fn order_by_new_ranks(
+    alloc: Global,
+    table: &Table,
+    letters: &mut LetterOrder<'_>,
+    text: &str,
+    other: &str,
+) -> Result<Ordering, KeyFault>
+    requires { Serves (ByLetters letters.old) table.now }
+    ensures order { IfOk result (λ order. order ≡ order_of (collation table.now) (chars text.now) (chars other.now)) }
+    ensures serves { Serves (ByLetters letters.new) table.now }
+{
     let ranks = Ranks::new(alloc, table)?;
     let order = compare(alloc, table, &ranks, text, other);
     letters.ranks = Some(ranks);
@@ -375,6 +391,7 @@ fn order_beyond_first(
 }
 
 // The order of two words of which one may hold an element, by their keys, which are paid for.
+#[inline(never)]
 fn order_by_keys(
     alloc: Global,
     table: &Table,
