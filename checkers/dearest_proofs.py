@@ -3,8 +3,8 @@
 
 usage: checkers/dearest_proofs.py CRATE
 
-The crate is checked with one job, and `rt check` prints a line as the proof of each function ends: a function took the time since the line
-before. A check begins with what checks kept, so it tells of what has changed since. The first function that needs a file of lemmas or a
+The crate is checked with one job, and `rt check` prints a line as the proof of each function ends: a function took the time since that of
+the one before. A check begins with what checks kept, so it tells of what has changed since. The first function that needs a file of lemmas or a
 library also pays for it. Nothing else should run meanwhile.
 """
 
@@ -30,7 +30,8 @@ def timed(crate):
             ended, now = ENDED.match(line), time.monotonic()
             if ended:
                 found.append((now - before, ended[1]))
-            before = now
+            if ended or not found:
+                before = now
     return found, time.monotonic() - begun, check.returncode
 
 

@@ -305,9 +305,9 @@ fn ranges_of_all_names_that_a_table_may_have_mean_what_names_kept_one_by_one_do(
     assert_full(&rt, rt.alloc(), FULL_BY_A_RANGE);
 }
 
-// A name, and 262,144 in a range, of which the last one is too many.
+// A name, and 262,144 in a range, of which the last one is too many, as are all of the range behind it.
 const TOO_FULL: &str =
-    "collating-symbol <N>\ncollating-symbol <S00000>..<S3FFFF>\ncollating-symbol <M>\n";
+    "collating-symbol <N>\ncollating-symbol <S00000>..<S3FFFF>\ncollating-symbol <T00000>..<T3FFFF>\n";
 
 #[test]
 fn a_range_of_a_name_too_many_is_refused_as_names_kept_one_by_one_are(rt: HostRuntime) {
