@@ -2,3 +2,4 @@ pub mod AdviceLines
 pub mod FaultNumbers
 pub mod Faults
 pub mod LineFaults
+pub mod NearNames

@@ -9,7 +9,7 @@
 //! - `lines`: what is wrong with an order line (`LineFaults`);
 //! - `blocks` and `statements`: all faults of a statement, and the first with a refusal (`Faults`);
 //! - `sentences`: the name and the sentence of each number (`FaultNumbers`);
-//! - `near_names`, `edits` and `texts`: the declared name that is nearest to another;
+//! - `near_names`, `edits` and `texts`: the declared name that is nearest to another (`NearNames`);
 //! - `advice_lines`: what is written of a fault behind its number and name (`AdviceLines`).
 #![tactic(auto)]
 

@@ -1,8 +1,8 @@
 //! What each number of a fault is called, and what to do.
 //!
-//! The sentences are those of docs/LANGUAGE.md, "All faults", in words that stand in a line behind a number, a name and an identifier.
-//! They begin in lower case, and have no full stop at their end. A new fault is a new row here, and a number in
-//! `specs/FaultNumbers.antt`.
+//! The names and the sentences are those of docs/LANGUAGE.md, "All faults", in words that stand in a line behind a number, a name and
+//! an identifier; `checkers/advice_of_faults.py` compares them. They begin in lower case, and have no full stop at their end. A new
+//! fault is a new row here and there, and a number in `specs/FaultNumbers.antt`.
 
 ghost use Rattle.std.specs.Prelude.{◌≡◌, true, is_some};
 ghost use Rattle.coll_advice.specs.FaultNumbers.{is_among, is_fault_number, of_lines, of_grammar, of_tables, of_statements, of_sessions};
