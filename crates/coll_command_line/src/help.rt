@@ -38,7 +38,8 @@ pub(crate) const LINTED: &str =
   de.txt:116: 34 NotDeclared <d-z'>: declare it with collating-symbol; is <dz> meant?
                           file, line, number and name of a fault, what it is about, what to do, and a declared name that is near
 And behind the faults:
-  de.txt:3: warning: ..   what has no effect
+  de.txt:3: warning: ..   what has no effect, where it is the only one of its kind
+  de.txt: warning: ..     of several of a kind, how many they are, and the first five
   de.txt: more faults aren't told
                           behind a thousand of them
 

@@ -1,3 +1,5 @@
+pub mod Counts
 pub mod KeptTexts
 pub mod LintLines
 pub mod Lints
+pub mod WarningLines

@@ -1,4 +1,4 @@
--- How what a lint tells is written: a line for each fault, and behind them a line for each warning (the project's own).
+-- How what a lint tells is written: a line for each fault, and behind them a line for each kind of warnings (the project's own).
 use Rattle.std.specs.Prelude.{ℕ, List, [], ◌∷◌, ◌++◌, Option, Some, None, codes, decimal}
 use Rattle.std.specs.List.{flat_map}
 use Rattle.coll_devices.specs.PhysicalLines.{line_feed}
@@ -9,11 +9,9 @@ use Rattle.coll_bench.specs.Reports.{named}
 use Rattle.coll_surveys.specs.declared.findings.About.{About}
 use Rattle.coll_surveys.specs.declared.findings.About.TheVariants as about
 use Rattle.coll_surveys.specs.declared.findings.FoundFault.{FoundFault}
+use Rattle.coll_lint.specs.WarningLines.{warnings_text}
 use Rattle.coll_lint.specs.declared.lints.Lint.{Lint}
 use Rattle.coll_surveys.specs.declared.foreign_words.ForeignWord.{ForeignWord}
-use Rattle.coll_surveys.specs.declared.findings.Warning.{Warning}
-use Rattle.coll_surveys.specs.declared.findings.Warning.TheVariants as warning
-use Rattle.coll_surveys.specs.declared.findings.WarnedLine.{WarnedLine}
 
 -- a keyword of another dialect, and what to write instead
 abbrev pub word_told : ForeignWord → List ℕ
@@ -46,23 +44,6 @@ fault_head names found =
 abbrev pub found_line : (names : List (List ℕ)) → FoundFault → List ℕ
 found_line names found = fault_head names found ++ about_told found.sentence.now found.about
 
--- what a warning says
-abbrev pub warning_told : Warning → List ℕ
-warning_told warning.CopyWithoutEffect =
-    codes "copy has no effect in a delta file: make one of its source by collbench import-delta\n"
-warning_told warning.ScriptWithoutEffect = codes "script has no effect: leave it out\n"
-warning_told (warning.NeverPlaced id) = id_bytes id ++ codes " is declared and never placed: place it, or drop its declaration\n"
-warning_told warning.ChangesNothing = codes "this changes nothing: the table is so already\n"
-warning_told warning.ByteOrderMark = codes "a byte order mark stands at the beginning: save the text without it\n"
-
--- where a warning belongs
-abbrev pub warning_head : (names : List (List ℕ)) → WarnedLine → List ℕ
-warning_head names warned = named names warned.input ++ (codes ":" ++ (decimal warned.line ++ codes ": warning: "))
-
--- the line of a warning
-abbrev pub warning_line : (names : List (List ℕ)) → WarnedLine → List ℕ
-warning_line names warned = warning_head names warned ++ warning_told warned.warning
-
 -- the line that says of an input that more isn't told, if there is more
 abbrev pub more_line : (names : List (List ℕ)) → (told : List ℕ) → Option ℕ → List ℕ
 more_line names told None = []
@@ -73,11 +54,6 @@ abbrev pub faults_text : (names : List (List ℕ)) → Lint → List ℕ
 faults_text names lint =
     flat_map (found_line names) lint.faults ++ more_line names (codes ": more faults aren't told\n") lint.more_faults
 
--- the lines of warnings
-abbrev pub warnings_text : (names : List (List ℕ)) → Lint → List ℕ
-warnings_text names lint =
-    flat_map (warning_line names) lint.warnings ++ more_line names (codes ": more warnings aren't told\n") lint.more_warnings
-
 -- all that is written of what a lint tells: the faults, and then the warnings
 unfoldable pub lint_text : (names : List (List ℕ)) → Lint → List ℕ
-lint_text names lint = faults_text names lint ++ warnings_text names lint
+lint_text names lint = faults_text names lint ++ warnings_text names lint.warnings

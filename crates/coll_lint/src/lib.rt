@@ -6,10 +6,12 @@
 //! - `kept_texts`: a text, read whole (`KeptTexts`);
 //! - `lints`: what is told of texts; `surveyed`: what a survey found, put in order, with `near_names`: declared names that may be meant;
 //! - `first_faults`: the fault that a batch answers is told first;
-//! - `lint_lines`: how all is written (`LintLines`);
+//! - `lint_lines`: how all is written (`LintLines`), with `warning_lines`: a line for each kind of warnings (`WarningLines`), and
+//!   `counts`: numbers with commas (`Counts`);
 //! - `linting`: texts are linted, and what is told is written (`Lints`).
 #![tactic(auto)]
 
+mod counts;
 mod first_faults;
 mod kept_texts;
 mod lint_lines;
@@ -17,6 +19,7 @@ mod linting;
 mod lints;
 mod near_names;
 mod surveyed;
+mod warning_lines;
 
 pub use kept_texts::{MOST_TEXT_BYTES, keep_text};
 pub use lint_lines::write_lint;

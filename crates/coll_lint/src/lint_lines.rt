@@ -1,16 +1,17 @@
-//! How what a lint tells is written, a line for each fault, and behind them a line for each warning.
+//! How what a lint tells is written, a line for each fault, and behind them a line for each kind of warnings.
 
 ghost use Rattle.std.specs.Prelude.{◌≡◌, Some, chars, map, string_bytes};
 ghost use Rattle.std.specs.List.{flat_map};
 ghost use Rattle.coll_devices.specs.Devices.{Writes};
 ghost use Rattle.coll_bench.specs.Reports.{named};
 ghost use Rattle.coll_lint.specs.LintLines.{about_told, fault_head, faults_text, found_line, lint_text, more_line, sentence_told};
-ghost use Rattle.coll_lint.specs.LintLines.{subject_told, warning_head, warning_line, warning_told, warnings_text, word_told};
+ghost use Rattle.coll_lint.specs.LintLines.{subject_told, word_told};
 
 use crate::lints::Lint;
-use coll_devices::{Sink, WriteStop, write_bytes};
+use crate::warning_lines::write_warnings;
+use coll_devices::{Sink, WriteStop};
 use coll_lex::TextBuf;
-use coll_surveys::{About, ForeignWord, FoundFault, WarnedLine, Warning};
+use coll_surveys::{About, ForeignWord, FoundFault};
 use coll_syntax::Id;
 use coll_texts::{Piece, write_pieces};
 
@@ -21,7 +22,7 @@ pub fn write_lint<W: Sink>(lint: &Lint, names: &[String], out: &mut W) -> Result
         (lint_text (map string_bytes names.now) lint.now) result }
 {
     match write_told_faults(lint, names, out) {
-        Ok(()) => write_told_warnings(lint, names, out),
+        Ok(()) => write_warnings(&lint.warnings, names, out),
         Err(stop) => Err(stop),
     }
 }
@@ -33,22 +34,6 @@ fn write_told_faults<W: Sink>(lint: &Lint, names: &[String], out: &mut W) -> Res
 {
     match write_faults(lint.faults.get(), names, out) {
         Ok(()) => write_more(lint.more_faults, names, b": more faults aren't told\n", out),
-        Err(stop) => Err(stop),
-    }
-}
-
-// Writes the warnings that are told, and whether there are more.
-fn write_told_warnings<W: Sink>(lint: &Lint, names: &[String], out: &mut W) -> Result<(), WriteStop>
-    ensures { Writes (W.taken out.old) (W.taken out.new) (W.failed out.old) (W.failed out.new)
-        (warnings_text (map string_bytes names.now) lint.now) result }
-{
-    match write_warnings(lint.warnings.get(), names, out) {
-        Ok(()) => write_more(
-            lint.more_warnings,
-            names,
-            b": more warnings aren't told\n",
-            out,
-        ),
         Err(stop) => Err(stop),
     }
 }
@@ -213,88 +198,8 @@ fn write_more<'a, W: Sink>(
     }
 }
 
-// Writes warnings.
-fn write_warnings<W: Sink>(
-    warnings: &[WarnedLine],
-    names: &[String],
-    out: &mut W,
-) -> Result<(), WriteStop>
-    ensures { Writes (W.taken out.old) (W.taken out.new) (W.failed out.old) (W.failed out.new)
-        (flat_map (warning_line (map string_bytes names.now)) warnings.now) result }
-{
-    for warned in warnings {
-        // Not `?`: behind its conversion this exit would need a lemma.
-        if let Err(stop) = write_warning(warned, names, out) {
-            return Err(stop);
-        }
-    }
-    Ok(())
-}
-
-// Writes a warning.
-fn write_warning<W: Sink>(
-    warned: &WarnedLine,
-    names: &[String],
-    out: &mut W,
-) -> Result<(), WriteStop>
-    ensures { Writes (W.taken out.old) (W.taken out.new) (W.failed out.old) (W.failed out.new)
-        (warning_line (map string_bytes names.now) warned.now) result }
-{
-    match write_warned_place(warned, names, out) {
-        Ok(()) => write_warned(&warned.warning, out),
-        Err(stop) => Err(stop),
-    }
-}
-
-// Writes where a warning belongs.
-fn write_warned_place<W: Sink>(
-    warned: &WarnedLine,
-    names: &[String],
-    out: &mut W,
-) -> Result<(), WriteStop>
-    ensures { Writes (W.taken out.old) (W.taken out.new) (W.failed out.old) (W.failed out.new)
-        (warning_head (map string_bytes names.now) warned.now) result }
-{
-    write_pieces(
-        out,
-        &[
-            Piece::Bytes(name_of(names, warned.input).as_bytes()),
-            Piece::Bytes(b":"),
-            Piece::Number(u64::from(warned.line)),
-            Piece::Bytes(b": warning: "),
-        ],
-    )
-}
-
-// Writes what a warning says, and a line feed.
-fn write_warned<W: Sink>(warning: &Warning, out: &mut W) -> Result<(), WriteStop>
-    ensures { Writes (W.taken out.old) (W.taken out.new) (W.failed out.old) (W.failed out.new) (warning_told warning.now) result }
-{
-    match warning {
-        Warning::CopyWithoutEffect => write_bytes(
-            out,
-            b"copy has no effect in a delta file: make one of its source by collbench import-delta\n",
-        ),
-        Warning::ScriptWithoutEffect => write_bytes(out, b"script has no effect: leave it out\n"),
-        Warning::NeverPlaced(id) => write_pieces(
-            out,
-            &[
-                Piece::Id(id),
-                Piece::Bytes(b" is declared and never placed: place it, or drop its declaration\n"),
-            ],
-        ),
-        Warning::ChangesNothing => {
-            write_bytes(out, b"this changes nothing: the table is so already\n")
-        }
-        Warning::ByteOrderMark => write_bytes(
-            out,
-            b"a byte order mark stands at the beginning: save the text without it\n",
-        ),
-    }
-}
-
-// The name of an input, or no bytes where there is none.
-fn name_of(names: &[String], input: usize) -> &str
+/// The name of an input, or no bytes where there is none.
+pub(crate) fn name_of(names: &[String], input: usize) -> &str
     ensures { result.now ≡ named (map string_bytes names.now) input }
 {
     match names.get(input) {

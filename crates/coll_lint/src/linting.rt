@@ -253,14 +253,12 @@ fn accepted(alloc: Global, told: Told) -> Lint
         faults,
         more_faults: _,
         warnings,
-        more_warnings,
     } = told;
     drop(faults);
     Lint {
         faults: ListBuf::new(Vec::new(alloc)),
         more_faults: None,
-        warnings: ListBuf::new(warnings),
-        more_warnings,
+        warnings,
     }
 }
 
@@ -272,14 +270,12 @@ fn refused(first: RunFault, told: Told) -> Result<Lint, AllocError>
         mut faults,
         more_faults,
         warnings,
-        more_warnings,
     } = told;
     match put_first(first, &mut faults) {
         Ok(()) => Ok(Lint {
             faults: ListBuf::new(faults),
             more_faults,
-            warnings: ListBuf::new(warnings),
-            more_warnings,
+            warnings,
         }),
         Err(error) => {
             drop(faults);

@@ -1,7 +1,7 @@
 //! What is told of a table and a delta file. It is plain data.
 
 use coll_lex::ListBuf;
-use coll_surveys::{FoundFault, WarnedLine};
+use coll_surveys::{FoundFault, Warnings};
 
 /// What is told of a table and a delta file.
 #[derive(Drop)]
@@ -10,8 +10,6 @@ pub struct Lint {
     pub faults: ListBuf<FoundFault>,
     /// The input of which more faults aren't told, if there are more than are told.
     pub more_faults: Option<usize>,
-    /// The warnings, in the order of their lines.
-    pub warnings: ListBuf<WarnedLine>,
-    /// The input of which more warnings aren't told, if there are more than are told.
-    pub more_warnings: Option<usize>,
+    /// The warnings.
+    pub warnings: Warnings,
 }

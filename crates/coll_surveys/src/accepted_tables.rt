@@ -4,9 +4,9 @@
 //! lines: `script`, and the declarations of names that have no entry. The order lines, which are most, are passed over unread.
 
 use crate::collecting::{Collected, Surveyed};
-use crate::findings::Warning;
 use crate::line_surveys::{Opening, TakesLines, survey_keywords};
-use crate::unplaced::Declarations;
+use crate::unplaced::{Declarations, DeclaredName};
+use crate::warnings::Warning;
 use coll_lex::{LexFault, Line};
 use coll_lookups::HashKeys;
 use coll_syntax::{SyntaxFault, TableLine, parse_table_line};
@@ -61,12 +61,14 @@ impl AcceptedSurvey {
     fn take_read(&mut self, number: u32, read: TableLine) -> Result<bool, AllocError> {
         match read {
             TableLine::Symbol(name) => {
-                self.declarations.declare(number, name)?;
+                self.declarations
+                    .declare(number, DeclaredName::Symbol(name))?;
                 Ok(false)
             }
             TableLine::Element { name, text } => {
                 drop(text);
-                self.declarations.declare(number, name)?;
+                self.declarations
+                    .declare(number, DeclaredName::Element(name))?;
                 Ok(false)
             }
             other => {
@@ -80,7 +82,7 @@ impl AcceptedSurvey {
     // Takes a line that declares no own name, and answers whether it ends the category.
     fn take_other(&mut self, number: u32, read: &TableLine) -> Result<bool, AllocError> {
         if let TableLine::Script = read {
-            self.told.warn(number, Warning::ScriptWithoutEffect)?;
+            self.told.warn(Warning::ScriptWithoutEffect, number, None)?;
         }
         Ok(matches!(read, TableLine::EndCategory))
     }

@@ -1,17 +1,23 @@
 //! What is told of a text, as it is gathered.
 //!
-//! Of one text the first faults and the first warnings are told, up to a limit, in the order in which they are found. An identifier that
-//! isn't declared, or that a weight names and that has no entry, is told once for each of these faults.
+//! Of one text the first faults are told, up to a limit, in the order in which they are found, and of each kind of warnings how many
+//! there are, and the first. An identifier that isn't declared, or that a weight names and that has no entry, is told once for each of
+//! these faults.
 
-use crate::findings::{About, FoundFault, WarnedLine, Warning};
+ghost use Rattle.std.specs.Prelude.{OnOk};
+ghost use Rattle.std.specs.Option.{option_map};
+ghost use Rattle.coll_surveys.specs.GatheredWarnings.{Warns};
+
+use crate::findings::{About, FoundFault};
+use crate::warnings::{Warning, Warnings};
 use coll_bench::{Fault, RunFault};
 use coll_lookups::{HashKeys, IdSet};
 use coll_syntax::Id;
 use coll_table::Table;
 use std::alloc::{AllocError, Global};
 
-/// Most faults that are told, and most warnings.
-pub(crate) const MOST_TOLD: usize = 1_000;
+// Most faults that are told.
+const MOST_TOLD: usize = 1_000;
 
 // The numbers of the faults that are told once for each identifier.
 const NOT_DECLARED: u8 = 34;
@@ -25,10 +31,8 @@ pub struct Told {
     pub faults: Vec<FoundFault>,
     /// The input, if there are more faults than are told.
     pub more_faults: Option<usize>,
-    /// The warnings, in the order in which they were found.
-    pub warnings: Vec<WarnedLine>,
-    /// The input, if there are more warnings than are told.
-    pub more_warnings: Option<usize>,
+    /// The warnings.
+    pub warnings: Warnings,
 }
 
 /// What a survey gives: what is told, and the table that the lines without fault give, where they give one.
@@ -80,8 +84,7 @@ impl Collected {
             told: Told {
                 faults: Vec::new(alloc),
                 more_faults: None,
-                warnings: Vec::new(alloc),
-                more_warnings: None,
+                warnings: Warnings::none(alloc, input),
             },
             undeclared: IdSet::new(alloc, keys),
             unplaced: IdSet::new(alloc, keys),
@@ -140,19 +143,12 @@ impl Collected {
         Ok(())
     }
 
-    /// Tells a warning at a line.
-    pub fn warn(&mut self, line: u32, warning: Warning) -> Result<(), AllocError> {
-        if self.told.warnings.len() >= MOST_TOLD {
-            self.told.more_warnings = Some(self.input);
-            drop(warning);
-            return Ok(());
-        }
-        self.told.warnings.push(WarnedLine {
-            input: self.input,
-            line,
-            warning,
-        })?;
-        Ok(())
+    /// Warns of a line, and of the name that the warning is about, if it is about one. Those of a kind come in the order of their lines.
+    pub fn warn(&mut self, warning: Warning, line: u32, id: Option<&Id>) -> Result<(), AllocError>
+        ensures { OnOk result (Warns self.old.told.warnings self.new.told.warnings warning
+            (record { line = line; id = option_map (λ id. id.now) id.entry })) }
+    {
+        self.told.warnings.add(warning, line, id)
     }
 
     // Whether a fault wasn't told yet of what it is about; from here on it was.

@@ -5,12 +5,13 @@
 //! kind in a block is told, and taken as outside of one.
 
 use crate::collecting::{Collected, Surveyed};
-use crate::findings::{About, Warning};
+use crate::findings::About;
 use crate::line_surveys::{Opening, TakesLines, survey_lines};
 use crate::open_blocks::{EndedBlock, OpenBlock, line_of};
 use crate::subjects::{about_given, refused_subject};
 use crate::unchanged::changed_nothing;
-use crate::unplaced::Declarations;
+use crate::unplaced::{Declarations, DeclaredName};
+use crate::warnings::Warning;
 use coll_advice::{Found, faults_of};
 use coll_bench::Fault;
 use coll_lex::{LexFault, Line, TextBuf};
@@ -145,7 +146,7 @@ impl DeltaSurvey {
     fn take_idle(&mut self, number: u32, warning: Option<Warning>) -> Result<(), AllocError> {
         self.tell_open(number)?;
         match warning {
-            Some(warning) => self.told.warn(number, warning),
+            Some(warning) => self.told.warn(warning, number, None),
             None => Ok(()),
         }
     }
@@ -195,13 +196,19 @@ impl DeltaSurvey {
 
     // Notes the name of a symbol or an element that a statement declares.
     fn note(&mut self, number: u32, statement: &Statement) -> Result<(), AllocError> {
-        let name = match statement {
-            Statement::Symbol(name) => name,
-            Statement::Element { name, .. } => name,
-            _ => return Ok(()),
-        };
-        let name = name.try_copy()?;
-        self.declarations.declare(number, name)
+        match statement {
+            Statement::Symbol(name) => {
+                let name = name.try_copy()?;
+                self.declarations
+                    .declare(number, DeclaredName::Symbol(name))
+            }
+            Statement::Element { name, .. } => {
+                let name = name.try_copy()?;
+                self.declarations
+                    .declare(number, DeclaredName::Element(name))
+            }
+            _ => Ok(()),
+        }
     }
 
     // Takes an order line, in a block or outside of one.
@@ -293,14 +300,16 @@ impl DeltaSurvey {
         Ok(())
     }
 
-    // Judges a statement that is no block, and puts it to the table where it has no fault. The answer is whether it has none.
+    // Judges a statement that is no block, and puts it to the table where it has no fault. The answer is whether it has none. In a block
+    // that is open it is at fault itself, and no warning is told of it, so that those of blocks and of statements come line by line.
     fn judge(&mut self, number: u32, statement: &Statement) -> Result<bool, AllocError> {
         if !statement.is_proper() {
             return Ok(false);
         }
         let found = faults_of(self.alloc, &self.table, statement)?;
         if found.is_empty() {
-            self.put(number, statement, false)?;
+            let in_block = self.block.is_some();
+            self.put(number, statement, in_block)?;
             return Ok(true);
         }
         self.tell_found(number, &[], found)?;
@@ -337,7 +346,7 @@ impl DeltaSurvey {
                 let idle = changed_nothing(&self.table, statement, &record);
                 drop(record);
                 if idle && !spoiled {
-                    return self.told.warn(number, Warning::ChangesNothing);
+                    return self.told.warn(Warning::ChangesNothing, number, None);
                 }
                 Ok(())
             }

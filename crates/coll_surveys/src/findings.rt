@@ -1,7 +1,4 @@
-//! What is told of a text: its faults, and warnings of what has no effect.
-//!
-//! All of this is plain data. A new warning is a variant of `Warning`, with its text in `lint_lines` and `specs/LintLines.antt` of
-//! `coll_lint`.
+//! The faults of a text. All of this is plain data.
 
 ghost use Rattle.std.specs.Prelude.{◌≡◌};
 
@@ -60,30 +57,4 @@ fn sentence_of(number: u8) -> &'static str {
         Some(told) => told.sentence,
         None => "",
     }
-}
-
-/// What a line says to no purpose, or what stands before the first.
-#[derive(Drop)]
-pub enum Warning {
-    /// `copy` in a delta file.
-    CopyWithoutEffect,
-    /// `script`.
-    ScriptWithoutEffect,
-    /// A name is declared that has no entry.
-    NeverPlaced(Id),
-    /// A statement leaves the table as it was.
-    ChangesNothing,
-    /// The text begins with a byte order mark.
-    ByteOrderMark,
-}
-
-/// A warning, and where it belongs.
-#[derive(Drop)]
-pub struct WarnedLine {
-    /// Which input it comes from: 0 is the table, 1 the delta file.
-    pub input: usize,
-    /// The number of the line, from 1.
-    pub line: u32,
-    /// What it is.
-    pub warning: Warning,
 }

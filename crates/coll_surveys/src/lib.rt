@@ -4,7 +4,8 @@
 //! judged by as much as possible. What it finds is for whoever tells it: no clause says that it is all, and tests show what is found. A
 //! way through the crate:
 //!
-//! - `findings`: what is told, faults and warnings, and `foreign_words`: keywords of other dialects;
+//! - `findings`: faults that are told, with `foreign_words`: keywords of other dialects; `warnings`: what a text says to no purpose, by
+//!   kinds;
 //! - `collecting`: what is told, as it is gathered; `line_surveys`: the lines of a text, handed on one after another; `subjects`: what
 //!   a fault is about; `unplaced`: what is declared and never placed;
 //! - `table_surveys`, with `table_weights`: a table, line by line; `accepted_tables`: one without fault;
@@ -23,10 +24,12 @@ mod table_surveys;
 mod table_weights;
 mod unchanged;
 mod unplaced;
+mod warnings;
 
 pub use accepted_tables::survey_accepted;
 pub use collecting::{Surveyed, Told};
 pub use delta_surveys::survey_delta;
-pub use findings::{About, FoundFault, WarnedLine, Warning};
+pub use findings::{About, FoundFault};
 pub use foreign_words::ForeignWord;
 pub use table_surveys::survey_table;
+pub use warnings::{Warned, WarnedKind, Warning, Warnings};

@@ -11,13 +11,14 @@ ghost use Rattle.coll_syntax.specs.Proper.{IsProperTableLine};
 ghost use Rattle.coll_texts.specs.BuilderStates.{table_of};
 
 use crate::collecting::{Collected, Surveyed};
-use crate::findings::{About, Warning};
+use crate::findings::About;
 use crate::line_surveys::{Opening, TakesLines, survey_lines};
 use crate::subjects::{refused_subject, table_subject};
 use crate::table_weights::survey_weights;
-use crate::unplaced::Declarations;
+use crate::unplaced::{Declarations, DeclaredName};
+use crate::warnings::Warning;
 use coll_bench::Fault;
-use coll_lex::{LexFault, Line, TextBuf};
+use coll_lex::{LexFault, Line};
 use coll_lookups::HashKeys;
 use coll_syntax::{OrderLine, SyntaxFault, TableLine, is_word, parse_table_line};
 use coll_table::Table;
@@ -164,9 +165,13 @@ impl TableSurvey {
     }
 
     // Prepares to put a line to the builder, and answers the name that it declares.
-    fn prepare(&mut self, number: u32, read: &TableLine) -> Result<Option<TextBuf>, AllocError> {
+    fn prepare(
+        &mut self,
+        number: u32,
+        read: &TableLine,
+    ) -> Result<Option<DeclaredName>, AllocError> {
         if let TableLine::Script = read {
-            self.told.warn(number, Warning::ScriptWithoutEffect)?;
+            self.told.warn(Warning::ScriptWithoutEffect, number, None)?;
         }
         if begins_order(read) || ends_category(read) {
             self.close_opened();
@@ -180,7 +185,7 @@ impl TableSurvey {
         &mut self,
         line: &Line,
         starts: bool,
-        name: Option<TextBuf>,
+        name: Option<DeclaredName>,
         taken: Result<bool, LoadFault>,
     ) -> Result<bool, AllocError>
         requires { AreTokens line.now.tokens }
@@ -199,7 +204,7 @@ impl TableSurvey {
     }
 
     // Notes what a line declares, if it declares a name.
-    fn note(&mut self, number: u32, name: Option<TextBuf>) -> Result<(), AllocError> {
+    fn note(&mut self, number: u32, name: Option<DeclaredName>) -> Result<(), AllocError> {
         match name {
             Some(name) => self.declarations.declare(number, name),
             None => Ok(()),
@@ -363,15 +368,15 @@ impl TakesLines for TableSurvey {
 }
 
 // The name that a line declares, if it declares a symbol or an element, in new memory.
-fn declared_name(line: &TableLine) -> Result<Option<TextBuf>, AllocError> {
+fn declared_name(line: &TableLine) -> Result<Option<DeclaredName>, AllocError> {
     match line {
         TableLine::Symbol(name) => {
             let name = name.try_copy()?;
-            Ok(Some(name))
+            Ok(Some(DeclaredName::Symbol(name)))
         }
         TableLine::Element { name, .. } => {
             let name = name.try_copy()?;
-            Ok(Some(name))
+            Ok(Some(DeclaredName::Element(name)))
         }
         _ => Ok(None),
     }

@@ -1,18 +1,46 @@
 //! Names that are declared and never placed.
 
 use crate::collecting::Collected;
-use crate::findings::Warning;
+use crate::warnings::Warning;
 use coll_lex::TextBuf;
 use coll_lookups::{HashKeys, IdSet};
 use coll_syntax::Id;
 use coll_table::Table;
 use std::alloc::{AllocError, Global};
 
-// A declaration: the number of its line, and the name as an identifier.
+/// A name that a line declares.
+#[derive(Drop)]
+pub(crate) enum DeclaredName {
+    /// That of a symbol.
+    Symbol(TextBuf),
+    /// That of a collating element.
+    Element(TextBuf),
+}
+
+// A declaration: the number of its line, the name as an identifier, and the warning where that is never placed.
 #[derive(Drop)]
 struct DeclaredAt {
     line: u32,
     id: Id,
+    unplaced: Warning,
+}
+
+impl DeclaredAt {
+    // The declaration of a name at a line.
+    fn new(line: u32, name: DeclaredName) -> DeclaredAt {
+        match name {
+            DeclaredName::Symbol(name) => DeclaredAt {
+                line,
+                id: Id::Named(name),
+                unplaced: Warning::SymbolNeverPlaced,
+            },
+            DeclaredName::Element(name) => DeclaredAt {
+                line,
+                id: Id::Named(name),
+                unplaced: Warning::ElementNeverPlaced,
+            },
+        }
+    }
 }
 
 /// What was declared, and what stood on order lines.
@@ -33,12 +61,9 @@ impl Declarations {
         }
     }
 
-    /// Notes a name that a line declares.
-    pub fn declare(&mut self, line: u32, name: TextBuf) -> Result<(), AllocError> {
-        self.declared.push(DeclaredAt {
-            line,
-            id: Id::Named(name),
-        })?;
+    /// Notes a name that a line declares, behind those of the lines before.
+    pub fn declare(&mut self, line: u32, name: DeclaredName) -> Result<(), AllocError> {
+        self.declared.push(DeclaredAt::new(line, name))?;
         Ok(())
     }
 
@@ -51,8 +76,7 @@ impl Declarations {
     pub fn warn_of_unplaced(&self, table: &Table, told: &mut Collected) -> Result<(), AllocError> {
         for declared in self.declared.as_slice() {
             if self.is_unplaced(table, &declared.id) {
-                let id = declared.id.clone()?;
-                told.warn(declared.line, Warning::NeverPlaced(id))?;
+                told.warn(declared.unplaced, declared.line, Some(&declared.id))?;
             }
         }
         Ok(())

@@ -5,7 +5,7 @@
 
 use crate::assertions::{assert_same, assert_that};
 use crate::tables::examples::loaded;
-use coll_surveys::{Told, WarnedLine, Warning, survey_accepted, survey_table};
+use coll_surveys::{Told, Warned, WarnedKind, Warnings, survey_accepted, survey_table};
 use coll_syntax::Id;
 use coll_table::{HashKeys, Table};
 use std::alloc::{AllocError, Global};
@@ -115,48 +115,61 @@ fn push_piece(text: &mut Vec<u8>, form: Form, piece: &str) -> Result<(), AllocEr
     Ok(())
 }
 
-// What a warning says: its kind, and the name that it is about.
-fn said(warning: &Warning) -> (&'static str, &str) {
-    match warning {
-        Warning::ScriptWithoutEffect => ("script", ""),
-        Warning::NeverPlaced(Id::Named(name)) => ("never placed", name.get()),
-        _ => ("another", ""),
+// The name that a warning is about, if it is about one.
+fn name_of(warned: &Warned) -> &str {
+    match &warned.id {
+        Some(Id::Named(name)) => name.get(),
+        _ => "",
     }
 }
 
-fn assert_warning(rt: &impl Abort, given: &WarnedLine, wanted: &WarnedLine) {
+fn assert_kind(rt: &impl Abort, given: &WarnedKind, wanted: &WarnedKind) {
+    assert_same(rt, "warnings", given.count, wanted.count);
+    assert_same(rt, "the first", given.firsts.len(), wanted.firsts.len());
+    for (one, other) in given.firsts.iter().zip(wanted.firsts.iter()) {
+        assert_same(rt, "the line", one.line, other.line);
+        assert_same(rt, "the name", name_of(one), name_of(other));
+    }
+}
+
+fn assert_warnings(rt: &impl Abort, given: &Warnings, wanted: &Warnings) {
     assert_same(rt, "the input", given.input, wanted.input);
-    assert_same(rt, "the line", given.line, wanted.line);
-    let (kind, name) = said(&given.warning);
-    let (wanted_kind, wanted_name) = said(&wanted.warning);
-    assert_same(rt, "the kind", kind, wanted_kind);
-    assert_same(rt, "the name", name, wanted_name);
+    assert_kind(rt, &given.copies, &wanted.copies);
+    assert_kind(rt, &given.scripts, &wanted.scripts);
+    assert_kind(rt, &given.symbols, &wanted.symbols);
+    assert_kind(rt, &given.elements, &wanted.elements);
+    assert_kind(rt, &given.unchanged, &wanted.unchanged);
 }
 
 fn assert_told(rt: &impl Abort, given: &Told, wanted: &Told) {
     assert_same(rt, "faults", given.faults.len(), 0);
     assert_same(rt, "faults of any table", wanted.faults.len(), 0);
-    assert_same(rt, "warnings", given.warnings.len(), wanted.warnings.len());
-    assert_that(rt, "no more", given.more_warnings.is_none());
-    for (one, other) in given.warnings.iter().zip(wanted.warnings.iter()) {
-        assert_warning(rt, one, other);
-    }
+    assert_warnings(rt, &given.warnings, &wanted.warnings);
+}
+
+// How many warnings there are of a table.
+fn count_of(warnings: &Warnings) -> u32 {
+    warnings
+        .scripts
+        .count
+        .saturating_add(warnings.symbols.count)
+        .saturating_add(warnings.elements.count)
 }
 
 // Asserts that both surveys of a text tell the same, which gives this table. The answer is how many warnings.
-fn assert_alike(rt: &impl Abort, alloc: Global, text: &[u8], table: Table) -> usize {
+fn assert_alike(rt: &impl Abort, alloc: Global, text: &[u8], table: Table) -> u32 {
     let keys = HashKeys::zeros();
     let given = survey_accepted(alloc, keys, text, table).expect(rt, "a survey");
     let wanted = survey_table(alloc, keys, text).expect(rt, "a survey of any table");
     assert_told(rt, &given.told, &wanted.told);
-    let warned = given.told.warnings.len();
+    let warned = count_of(&given.told.warnings);
     drop(given);
     drop(wanted);
     warned
 }
 
 // Asserts this of a text, if a load accepts it. The answer is how many warnings.
-fn assert_if_accepted(rt: &impl Abort, alloc: Global, form: Form, pieces: &[&str]) -> usize {
+fn assert_if_accepted(rt: &impl Abort, alloc: Global, form: Form, pieces: &[&str]) -> u32 {
     let text = text_of(alloc, form, pieces).expect(rt, "a text");
     let warned = match loaded(alloc, &text) {
         Ok(table) => assert_alike(rt, alloc, &text, table),
@@ -173,9 +186,9 @@ fn assert_all_behind(
     form: Form,
     declared: &str,
     ordered: &str,
-) -> usize {
+) -> u32 {
     let begin = "LC_COLLATE\ncollating-symbol <A>\n";
-    let mut warned: usize = 0;
+    let mut warned: u32 = 0;
     for behind in BEHIND {
         let pieces = [
             begin,
@@ -191,8 +204,8 @@ fn assert_all_behind(
 }
 
 // The same of all texts with these declarations.
-fn assert_all_ordered(rt: &impl Abort, alloc: Global, form: Form, declared: &str) -> usize {
-    let mut warned: usize = 0;
+fn assert_all_ordered(rt: &impl Abort, alloc: Global, form: Form, declared: &str) -> u32 {
+    let mut warned: u32 = 0;
     for ordered in ORDERED {
         warned = warned.saturating_add(assert_all_behind(rt, alloc, form, declared, ordered));
     }
@@ -201,7 +214,7 @@ fn assert_all_ordered(rt: &impl Abort, alloc: Global, form: Form, declared: &str
 
 // The same of all texts of a form, some of which have warnings.
 fn assert_form(rt: &impl Abort, alloc: Global, form: Form) {
-    let mut warned: usize = 0;
+    let mut warned: u32 = 0;
     for declared in DECLARED {
         warned = warned.saturating_add(assert_all_ordered(rt, alloc, form, declared));
     }

@@ -1,7 +1,8 @@
 -- The second part stands behind the first, or a prefix of the first is written.
 use Rattle.std.proofs.Common.{map, string_bytes, rules}
 use Rattle.coll_devices.proofs.WritingLemmas.{AppendsPrefix-before, Sends-after}
-use Rattle.coll_lint.specs.LintLines.{faults_text, lint_text, warnings_text}
+use Rattle.coll_lint.specs.LintLines.{faults_text, lint_text}
+use Rattle.coll_lint.specs.WarningLines.{warnings_text}
 use Rattle.coll_lint.proofs.lint_lines.write_lint.Goals as goal
 
 pub returns-in-Ok : goal.returns-in-Ok
@@ -9,10 +10,10 @@ unfolding lint_text
 returns-in-Ok g c =
     record {
       sent = let taken = g.W.Sink.taken in
-          Sends-after (taken c.args.out.now) (taken c.write_told_faults.new.out) (taken c.write_told_warnings.new.out)
+          Sends-after (taken c.args.out.now) (taken c.write_told_faults.new.out) (taken c.write_warnings.new.out)
           (faults_text (map string_bytes c.args.names.now) c.args.lint.now)
-          (warnings_text (map string_bytes c.args.names.now) c.args.lint.now) c.write_told_warnings.result
-          c.in-Ok.ensures.sent c.write_told_warnings.ensures.sent;
+          (warnings_text (map string_bytes c.args.names.now) c.args.lint.now.warnings) c.write_warnings.result
+          c.in-Ok.ensures.sent c.write_warnings.ensures.sent;
       errors = search rules;
     }
 
@@ -23,6 +24,6 @@ returns-in-Err g c =
       sent = let taken = g.W.Sink.taken in
           AppendsPrefix-before (taken c.args.out.now) (taken c.write_told_faults.new.out)
           (faults_text (map string_bytes c.args.names.now) c.args.lint.now)
-          (warnings_text (map string_bytes c.args.names.now) c.args.lint.now) c.in-Err.ensures.sent;
+          (warnings_text (map string_bytes c.args.names.now) c.args.lint.now.warnings) c.in-Err.ensures.sent;
       errors = search rules;
     }

@@ -1,0 +1,107 @@
+-- How warnings are written: a line for each kind of them in a text (the project's own).
+use Rattle.std.specs.Prelude.{ℕ, nat_lt, Bool, if◌then◌else◌, List, [], ◌∷◌, ◌++◌, length, Option, Some, None, codes, decimal}
+use Rattle.std.specs.List.{concat, flat_map}
+use Rattle.coll_syntax.specs.declared.identifiers.Id.{Id}
+use Rattle.coll_texts.specs.PrintedParts.{id_bytes}
+use Rattle.coll_bench.specs.Reports.{named}
+use Rattle.coll_lint.specs.Counts.{with_commas}
+use Rattle.coll_lint.specs.declared.warning_lines.KindLine.{KindLine}
+use Rattle.coll_lint.specs.declared.warning_lines.KindLine.TheVariants as kind
+use Rattle.coll_surveys.specs.declared.warnings.Warned.{Warned}
+use Rattle.coll_surveys.specs.declared.warnings.WarnedKind.{WarnedKind}
+use Rattle.coll_surveys.specs.declared.warnings.Warning.{Warning}
+use Rattle.coll_surveys.specs.declared.warnings.Warning.TheVariants as warning
+use Rattle.coll_surveys.specs.declared.warnings.Warnings.{Warnings}
+
+-- what a warning says that is the only one of its kind, behind the name that it is about, if it is about one
+abbrev pub alone_told : Warning → List ℕ
+alone_told warning.CopyWithoutEffect =
+    codes "copy has no effect in a delta file: make one of its source by collbench import-delta\n"
+alone_told warning.ScriptWithoutEffect = codes "script has no effect: leave it out\n"
+alone_told warning.SymbolNeverPlaced = codes " is declared and never placed: place it, or drop its declaration\n"
+alone_told warning.ElementNeverPlaced = codes " is declared and never placed: place it, or drop its declaration\n"
+alone_told warning.ChangesNothing = codes "this changes nothing: the table is so already\n"
+
+-- what several warnings of a kind say, before how many they are
+abbrev pub several_told : Warning → List ℕ
+several_told warning.CopyWithoutEffect = codes "copy has no effect in a delta file, make one of its source by collbench import-delta: "
+several_told warning.ScriptWithoutEffect = codes "script has no effect, leave it out: "
+several_told warning.SymbolNeverPlaced = codes "declared and never placed: "
+several_told warning.ElementNeverPlaced = codes "declared and never placed: "
+several_told warning.ChangesNothing = codes "this changes nothing, the table is so already: "
+
+-- what is counted, and what leads to the first of them
+abbrev pub noun_told : Warning → List ℕ
+noun_told warning.CopyWithoutEffect = codes " times, in lines"
+noun_told warning.ScriptWithoutEffect = codes " times, in lines"
+noun_told warning.SymbolNeverPlaced = codes " symbols, as"
+noun_told warning.ElementNeverPlaced = codes " elements, as"
+noun_told warning.ChangesNothing = codes " statements, in lines"
+
+-- an identifier, if there is one
+abbrev pub id_told : Option Id → List ℕ
+id_told None = []
+id_told (Some id) = id_bytes id
+
+-- the line of a warning that is the only one of its kind
+abbrev pub alone_line : (name : List ℕ) → Warning → Warned → List ℕ
+alone_line name warning only =
+    name ++ (codes ":" ++ (decimal only.line ++ (codes ": warning: " ++ (id_told only.id ++ alone_told warning))))
+
+-- what stands for one of several: the identifier that it is about, or else its line
+abbrev pub one_of : (line : ℕ) → Option Id → List ℕ
+one_of line None = decimal line
+one_of line (Some id) = id_bytes id
+
+-- one of several, behind a space
+abbrev pub one_told : Warned → List ℕ
+one_told one = codes " " ++ one_of one.line one.id
+
+-- the end of a line in which so many of a kind stand: two dots, where there are more
+abbrev pub line_end : (told count : ℕ) → List ℕ
+line_end told count = if nat_lt told count then codes " ..\n" else codes "\n"
+
+-- the first of so many of a kind, to the end of the line
+abbrev pub firsts_told : (count : ℕ) → List Warned → List ℕ
+firsts_told count firsts = flat_map one_told firsts ++ line_end (length firsts) count
+
+-- of several warnings of a kind, what they say, how many they are, and what is counted
+abbrev pub several_head : (name : List ℕ) → Warning → (count : ℕ) → List ℕ
+several_head name warning count =
+    name ++ (codes ": warning: " ++ (several_told warning ++ (with_commas count ++ noun_told warning)))
+
+-- the line of the warnings of a kind, of which these are the first: none where there are none
+abbrev pub firsts_line : (name : List ℕ) → Warning → (count : ℕ) → (firsts : List Warned) → List ℕ
+firsts_line name warning count [] = []
+firsts_line name warning count (only ∷ []) = alone_line name warning only
+firsts_line name warning count (first ∷ second ∷ later) =
+    several_head name warning count ++ firsts_told count (first ∷ second ∷ later)
+
+-- the line of the warnings of a kind, if there are any
+abbrev pub kind_line : (name : List ℕ) → Warning → WarnedKind → List ℕ
+kind_line name warning kind = firsts_line name warning kind.count kind.firsts.items
+
+-- the line that says of a text that a byte order mark stands at its beginning, if one does
+abbrev pub mark_line : (name : List ℕ) → Bool → List ℕ
+mark_line name stands =
+    if stands then name ++ codes ":1: warning: a byte order mark stands at the beginning: save the text without it\n" else []
+
+-- the line of a mark, or of a kind
+abbrev pub line_told : KindLine → List ℕ
+line_told (kind.Mark name stands) = mark_line name.now stands
+line_told (kind.Kind name warning kind) = kind_line name.now warning kind.now
+
+-- the lines of warnings: those of the text that was surveyed, kind by kind, and then that of the table that a delta file is for
+abbrev pub warnings_text : (names : List (List ℕ)) → Warnings → List ℕ
+warnings_text names warnings =
+    let name = named names warnings.input in
+    concat (
+    mark_line name warnings.mark
+    ∷ kind_line name warning.CopyWithoutEffect warnings.copies
+    ∷ kind_line name warning.ScriptWithoutEffect warnings.scripts
+    ∷ kind_line name warning.SymbolNeverPlaced warnings.symbols
+    ∷ kind_line name warning.ElementNeverPlaced warnings.elements
+    ∷ kind_line name warning.ChangesNothing warnings.unchanged
+    ∷ mark_line (named names 0) warnings.table_mark
+    ∷ []
+    )
