@@ -1,5 +1,9 @@
 pub mod AskedLemmas
 pub mod EditLemmas
 pub mod PutLemmas
+mod ShowingLemmas
 mod StatementLemmas
+pub mod ToldLemmas
+pub mod ToldOrders
 mod WordLemmas
+pub mod WordListRuns

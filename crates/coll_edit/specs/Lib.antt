@@ -2,5 +2,8 @@ pub mod Editing
 pub mod EditRuns
 pub mod Help
 pub mod OwnLines
+pub mod Showing
+pub mod ToldLists
 pub mod Watching
 pub mod WordKeys
+pub mod WordLists

@@ -3,7 +3,7 @@
 //! An `Editor` is a session, and beside it whether a line of `edit` was answered. The session takes each line; the request that it
 //! completes is answered by the session, or, where that refuses it and the line is one of `edit`, by that line.
 
-ghost use Rattle.std.specs.Prelude.{◌≡◌, ◌+◌, ◌<◌, ℕ, Bool, true, IfErr, IfOk, IfSome, List, Ok, OnOk, Option, Some, option_to_list};
+ghost use Rattle.std.specs.Prelude.{◌≡◌, ◌+◌, ◌<◌, ℕ, Bool, [], chars, true, IfErr, IfOk, IfSome, List, Ok, OnOk, Option, Some, option_to_list};
 ghost use Rattle.coll_devices.specs.Devices.{Sends};
 ghost use Rattle.coll_lex.specs.Limits.{most_lines};
 ghost use Rattle.coll_lex.specs.LogicalLines.{number_of, pending};
@@ -22,6 +22,8 @@ ghost use Rattle.coll_bench.specs.BatchReading.{FailsAs};
 ghost use Rattle.coll_bench.specs.BatchRuns.{ending_of};
 ghost use Rattle.coll_bench.specs.declared.faults.Fault.TheVariants as lex_fault;
 ghost use Rattle.coll_edit.specs.Editing.{AnswersRequest, EditsLine, IsLeft, IsLook, PutsBehind, has_answered as answered_by, run_of};
+ghost use Rattle.coll_delta_texts.specs.DeltaText.{delta_text};
+ghost use Rattle.coll_explanations.specs.Explaining.{Explains};
 ghost use Rattle.coll_edit.specs.EditRuns.{IsUnserved};
 ghost use Rattle.coll_edit.specs.Watching.{device_of};
 
@@ -418,10 +420,7 @@ impl Editor {
                 write_shown(output, self.run.session().table(), self.run.places(), id)
             }
             OwnLine::Explain(text, other) => self.write_explained(text, other, output),
-            OwnLine::Delta => {
-                write_statements(output, self.run.session())?;
-                flush(output)
-            }
+            OwnLine::Delta => self.write_delta(output),
             OwnLine::Help => write_help(output),
             OwnLine::HelpNumber(number) => write_number_help(output, number.get()),
             OwnLine::Wrong(fault) => write_refusal(output, Fault::Syntax(*fault)),
@@ -429,7 +428,17 @@ impl Editor {
         }
     }
 
-    // Writes why two texts compare as they do.
+    // Writes the statements that remain, and flushes them.
+    fn write_delta<W: Sink>(&self, output: &mut Watched<W>) -> Result<(), WriteStop>
+        ensures sent { Sends (W.taken (device_of output.old)) (W.taken (device_of output.new))
+            (delta_text [] (history_of (run_of self.now)).remaining) result }
+        ensures flushed { OnOk result (W.flushed (device_of output.new) ≡ true) }
+    {
+        write_statements(output, self.run.session())?;
+        flush(output)
+    }
+
+    // Writes why two texts compare as they do, and flushes it.
     fn write_explained<W: Sink>(
         &self,
         text: &TextBuf,
@@ -451,7 +460,10 @@ impl Editor {
         text: &str,
         other: &str,
         output: &mut Watched<W>,
-    ) -> Result<(), RunFault> {
+    ) -> Result<(), RunFault>
+        ensures { Explains (table_now (history_of (run_of self.now))) (chars text.now) (chars other.now) (W.taken (device_of output.old))
+            (W.taken (device_of output.new)) result }
+    {
         let table = self.run.session().table();
         match self.run.places() {
             Some(places) => explain_by_places(self.alloc, table, places, text, other, output),

@@ -8,8 +8,8 @@
 //! - `own_lines`: the lines that stand beside those of a session (`OwnLines`);
 //! - `watched`: an output that knows which refusal its last reply told (`Watching`);
 //! - `devices`: files that are opened by their names;
-//! - `replies`, `showing`, `weights`, `statements`, `word_lists` with `word_keys`, `help`: what these lines are answered (`WordKeys`,
-//!   `Help`);
+//! - `replies`, `showing`, `weights`, `statements`, `word_lists` with `word_keys`, `help`: what these lines are answered (`Showing`,
+//!   `WordLists`, `ToldLists`, `WordKeys`, `Help`);
 //! - `messages`: prompts, and the sentence behind a refusal, for standard error;
 //! - `copies`: copies of statements, which delta files put before the first line;
 //! - `editors`: where an edit stands between two lines, and how it goes on by one (`Editing`);

@@ -1,11 +1,20 @@
 //! An entry is shown: its rank, its weights and its section, and three neighbours on each side.
 //!
-//! A character without an entry stands where `UNDEFINED` does, or behind all entries where that has none; its neighbours are those of
-//! this place. Nothing here takes memory. Neighbours are found by their nodes, and the rank by the places of the entries, where these
-//! are known; else the entries before the one that is shown are counted. No contract says what is shown: runs of `tests/runs` do.
+//! What is shown is stated by places in the order of the table (`specs/Showing.antt`). Here neighbours are found by their nodes, and
+//! the rank by the places of the entries, where these are known; else the entries before the one that is shown are counted. A character
+//! without an entry stands where `UNDEFINED` does, or behind all entries where that has none. Nothing here takes memory.
 
-ghost use Rattle.std.specs.Prelude.{IfSome};
+ghost use Rattle.std.specs.Prelude.{◌≡◌, ◌≤◌, ◌+◌, ◌-◌, ◌++◌, ℕ, None, Some, true, chars, codes, length, option_copied, option_map, IfSome, OnOk};
+ghost use Rattle.std.specs.List.{flat_map};
+ghost use Rattle.coll_devices.specs.Devices.{CountsErr, Sends, Writes};
+ghost use Rattle.coll_syntax.specs.declared.identifiers.Id.TheVariants.{Undefined};
 ghost use Rattle.coll_nodes.specs.NodeNumbers.{AreNumbersOf};
+ghost use Rattle.coll_nodes.specs.Placement.{entry_at, place_among};
+ghost use Rattle.coll_nodes.specs.Table.{entries_of};
+ghost use Rattle.coll_nodes.specs.TableLayout.{collation};
+ghost use Rattle.coll_texts.specs.Pieces.{piece_bytes};
+ghost use Rattle.coll_edit.specs.Showing.{around, entry_in, entry_told, line_if, marked_bytes, place_of, place_told, placed_told};
+ghost use Rattle.coll_edit.specs.Showing.{absent_told, rank_line, shown, spot_place, IsEntryIn, IsSpot};
 
 use crate::replies::{flush, write_refusal};
 use crate::weights::write_weighed;
@@ -16,23 +25,27 @@ use coll_syntax::Id;
 use coll_table::{EntryNumbers, Refusal, Table};
 use coll_texts::{Piece, write_pieces};
 
-// How many neighbours are shown on each side.
-const NEIGHBOURS: usize = 3;
-
-// The entries that are shown beside a place, in order.
-type Beside<'a> = [Option<&'a Entry>; NEIGHBOURS];
-
 // A place in a table: that of an entry, or the one behind all entries.
 #[derive(Clone, Copy)]
 struct Spot<'a> {
-    before: Beside<'a>,
-    // The entry, if one stands there.
-    entry: Option<&'a Entry>,
-    behind: Beside<'a>,
+    // The entry directly before it, if there is one.
+    before: Option<&'a Entry>,
+    // The entry that stands there, if one does.
+    here: Option<&'a Entry>,
+    // The entry directly behind it, if there is one.
+    behind: Option<&'a Entry>,
     // How many entries stand before it, and one more.
     rank: u64,
     // The name of its section, if it is in one that has a name.
     section: Option<&'a str>,
+}
+
+// A line that may be shown: an entry with its rank behind a mark, if there is one.
+#[derive(Clone, Copy)]
+struct MarkedLine<'a> {
+    mark: &'a [u8],
+    rank: u64,
+    entry: Option<&'a Entry>,
 }
 
 /// Writes what `:show` shows of an identifier, and flushes it. The places are those of the table's entries, if they are known.
@@ -43,11 +56,14 @@ pub(crate) fn write_shown<W: Sink>(
     id: &Id,
 ) -> Result<(), WriteStop>
     requires { IfSome places (λ numbers. AreNumbersOf numbers.now table.now.layout) }
+    ensures sent { Sends (W.taken out.old) (W.taken out.new) (shown (collation table.now) id.now) result }
+    ensures errors { CountsErr (W.failed out.old) (W.failed out.new) result }
+    ensures flushed { OnOk result (W.flushed out.new ≡ true) }
 {
     match id {
         Id::Char(_) => match table.entry(id) {
-            Some(entry) => write_spot(out, b"shown", None, spot_of(table, places, entry)),
-            None => write_spot(out, b"absent", Some(id), spot_of_absent(table, places)),
+            Some(entry) => write_entry(out, table, places, entry),
+            None => write_absent(out, table, places, id),
         },
         Id::Named(name) => match table.resolve(name.get()) {
             Some(_) => write_placed(out, table, places, table.entry_of_name(name.get())),
@@ -64,23 +80,65 @@ fn write_placed<W: Sink>(
     places: Option<&EntryNumbers>,
     placed: Option<&Entry>,
 ) -> Result<(), WriteStop>
-    requires { IfSome places (λ numbers. AreNumbersOf numbers.now table.now.layout) }
+    requires numbers { IfSome places (λ numbers. AreNumbersOf numbers.now table.now.layout) }
+    requires placed { IfSome placed (λ entry. IsEntryIn (entries_of (collation table.now)) entry.now) }
+    ensures sent { Sends (W.taken out.old) (W.taken out.new) (placed_told (collation table.now) (option_copied placed.entry)) result }
+    ensures errors { CountsErr (W.failed out.old) (W.failed out.new) result }
+    ensures flushed { OnOk result (W.flushed out.new ≡ true) }
 {
     match placed {
-        Some(entry) => write_spot(out, b"shown", None, spot_of(table, places, entry)),
+        Some(entry) => write_entry(out, table, places, entry),
         None => write_refusal(out, Fault::Table(Refusal::NotPlaced)),
     }
 }
 
+// Writes an entry and those around it.
+fn write_entry<W: Sink>(
+    out: &mut W,
+    table: &Table,
+    places: Option<&EntryNumbers>,
+    entry: &Entry,
+) -> Result<(), WriteStop>
+    requires numbers { IfSome places (λ numbers. AreNumbersOf numbers.now table.now.layout) }
+    requires entry { IsEntryIn (entries_of (collation table.now)) entry.now }
+    ensures sent { Sends (W.taken out.old) (W.taken out.new) (entry_told (collation table.now) entry.now) result }
+    ensures errors { CountsErr (W.failed out.old) (W.failed out.new) result }
+    ensures flushed { OnOk result (W.flushed out.new ≡ true) }
+{
+    let spot = spot_of(table, places, entry);
+    write_spot(out, table, &[Piece::Bytes(b"shown ")], &spot)
+}
+
+// Writes that a character has no entry, and those around the place where it comes.
+fn write_absent<W: Sink>(
+    out: &mut W,
+    table: &Table,
+    places: Option<&EntryNumbers>,
+    id: &Id,
+) -> Result<(), WriteStop>
+    requires { IfSome places (λ numbers. AreNumbersOf numbers.now table.now.layout) }
+    ensures sent { Sends (W.taken out.old) (W.taken out.new) (absent_told (collation table.now) id.now) result }
+    ensures errors { CountsErr (W.failed out.old) (W.failed out.new) result }
+    ensures flushed { OnOk result (W.flushed out.new ≡ true) }
+{
+    let spot = spot_of_absent(table, places);
+    let words = [Piece::Bytes(b"absent "), Piece::Id(id), Piece::Bytes(b" ")];
+    write_spot(out, table, &words, &spot)
+}
+
 // The place of an entry.
 fn spot_of<'a>(table: &'a Table, places: Option<&EntryNumbers>, entry: &'a Entry) -> Spot<'a>
-    requires { IfSome places (λ numbers. AreNumbersOf numbers.now table.now.layout) }
+    requires numbers { IfSome places (λ numbers. AreNumbersOf numbers.now table.now.layout) }
+    requires entry { IsEntryIn (entries_of (collation table.now)) entry.now }
+    ensures around { IsSpot (entries_of (collation table.now)) result }
+    ensures place { spot_place result ≡ place_of (collation table.now) (Some entry.now) }
 {
+    table.lemma_well_formed();
     let id = entry.id();
     Spot {
-        before: entries_up_to(table, table.entry_before(id)),
-        entry: Some(entry),
-        behind: entries_from(table, table.entry_behind(id)),
+        before: table.entry_before(id),
+        here: Some(entry),
+        behind: table.entry_behind(id),
         rank: rank_of(table, places, id),
         section: table.section_name(id),
     }
@@ -89,42 +147,51 @@ fn spot_of<'a>(table: &'a Table, places: Option<&EntryNumbers>, entry: &'a Entry
 // The place where a character without an entry comes.
 fn spot_of_absent<'a>(table: &'a Table, places: Option<&EntryNumbers>) -> Spot<'a>
     requires { IfSome places (λ numbers. AreNumbersOf numbers.now table.now.layout) }
+    ensures around { IsSpot (entries_of (collation table.now)) result }
+    ensures place { spot_place result ≡ place_of (collation table.now) (entry_at (entries_of (collation table.now)) Undefined) }
 {
     match table.entry(&Id::Undefined) {
         Some(entry) => spot_of(table, places, entry),
-        None => Spot {
-            before: entries_up_to(table, table.last_entry()),
-            entry: None,
-            behind: [None; NEIGHBOURS],
-            rank: (table.len() as u64).saturating_add(1),
-            section: None,
-        },
+        None => spot_behind_all(table),
     }
 }
 
-// The last entries up to one.
-fn entries_up_to<'a>(table: &'a Table, last: Option<&'a Entry>) -> Beside<'a> {
-    let second = entry_before(table, last);
-    [entry_before(table, second), second, last]
-}
-
-// The first entries from one on.
-fn entries_from<'a>(table: &'a Table, first: Option<&'a Entry>) -> Beside<'a> {
-    let second = entry_behind(table, first);
-    [first, second, entry_behind(table, second)]
+// The place behind all entries.
+fn spot_behind_all(table: &Table) -> Spot<'_>
+    ensures around { IsSpot (entries_of (collation table.now)) result }
+    ensures place { spot_place result ≡ place_of (collation table.now) None }
+{
+    table.lemma_well_formed();
+    Spot {
+        before: table.last_entry(),
+        here: None,
+        behind: None,
+        rank: table.len() as u64 + 1,
+        section: None,
+    }
 }
 
 // The entry before one, if both are there.
-fn entry_before<'a>(table: &'a Table, entry: Option<&'a Entry>) -> Option<&'a Entry> {
-    match entry {
+fn entry_before<'a>(table: &'a Table, one: Option<&'a Entry>) -> Option<&'a Entry>
+    ensures { (place : ℕ) → place ≤ length (entries_of (collation table.now))
+        → option_copied one.entry ≡ entry_in (entries_of (collation table.now)) place
+        → option_copied result ≡ entry_in (entries_of (collation table.now)) (place - 1) }
+{
+    table.lemma_well_formed();
+    match one {
         Some(entry) => table.entry_before(entry.id()),
         None => None,
     }
 }
 
 // The entry behind one, if both are there.
-fn entry_behind<'a>(table: &'a Table, entry: Option<&'a Entry>) -> Option<&'a Entry> {
-    match entry {
+fn entry_behind<'a>(table: &'a Table, one: Option<&'a Entry>) -> Option<&'a Entry>
+    ensures { (place : ℕ) → 1 ≤ place
+        → option_copied one.entry ≡ entry_in (entries_of (collation table.now)) place
+        → option_copied result ≡ entry_in (entries_of (collation table.now)) (place + 1) }
+{
+    table.lemma_well_formed();
+    match one {
         Some(entry) => table.entry_behind(entry.id()),
         None => None,
     }
@@ -133,6 +200,7 @@ fn entry_behind<'a>(table: &'a Table, entry: Option<&'a Entry>) -> Option<&'a En
 // The rank of an identifier that has an entry.
 fn rank_of(table: &Table, places: Option<&EntryNumbers>, id: &Id) -> u64
     requires { IfSome places (λ numbers. AreNumbersOf numbers.now table.now.layout) }
+    ensures { (place : ℕ) → place_among (entries_of (collation table.now)) id.now ≡ Some place → result ≡ place }
 {
     match places {
         Some(places) => u64::from(table.entry_number(places, id).unwrap_or(0)),
@@ -141,101 +209,164 @@ fn rank_of(table: &Table, places: Option<&EntryNumbers>, id: &Id) -> u64
 }
 
 // The same, where the entries up to it are counted.
-fn counted_rank(table: &Table, id: &Id) -> u64 {
-    let mut rank = 1u64;
+fn counted_rank(table: &Table, id: &Id) -> u64
+    ensures { (place : ℕ) → place_among (entries_of (collation table.now)) id.now ≡ Some place → result ≡ place }
+{
+    table.lemma_well_formed();
+    let mut before = 0u64;
     let mut left = table.walk();
     'walk: while let Some(item) = left.next() {
-        if let WalkItem::Entry(entry) = item {
-            if entry.id().is_same(id) {
-                return rank;
-            }
-            rank = rank.saturating_add(1);
+        let WalkItem::Entry(entry) = item else {
+            continue;
+        };
+        if entry.id().is_same(id) {
+            return before + 1;
         }
+        before += 1;
     }
-    rank
+    before
 }
 
-// Writes a place with the entries around it: those before it, the one that stands there, and those behind it; and last what was shown.
+// Writes the entries around a place, and last these words, its rank, and its section, if that has a name; and flushes them.
 fn write_spot<W: Sink>(
     out: &mut W,
-    word: &[u8],
-    id: Option<&Id>,
-    spot: Spot<'_>,
-) -> Result<(), WriteStop> {
-    write_before(out, &spot.before[..], spot.rank)?;
-    if let Some(entry) = spot.entry {
-        write_line(out, b"> ", spot.rank, entry)?;
-    }
-    write_behind(out, &spot.behind[..], spot.rank)?;
-    write_place(out, word, id, spot)
+    table: &Table,
+    words: &[Piece<'_>],
+    spot: &Spot<'_>,
+) -> Result<(), WriteStop>
+    requires { IsSpot (entries_of (collation table.now)) spot.now }
+    ensures sent { Sends (W.taken out.old) (W.taken out.new)
+        (place_told (collation table.now) (flat_map piece_bytes words.now) (spot_place spot.now)) result }
+    ensures errors { CountsErr (W.failed out.old) (W.failed out.new) result }
+    ensures flushed { OnOk result (W.flushed out.new ≡ true) }
+{
+    write_lines(out, table, words, spot)?;
+    flush(out)
 }
 
-// Writes the entries before the one with a rank.
-fn write_before<W: Sink>(
+// Writes the same, and flushes nothing.
+fn write_lines<W: Sink>(
     out: &mut W,
-    before: &[Option<&Entry>],
-    rank: u64,
-) -> Result<(), WriteStop> {
-    let mut distance = before.len() as u64;
-    for kept in before {
-        if let Some(entry) = kept {
-            if let Err(stop) = write_line(out, b"  ", rank.saturating_sub(distance), *entry) {
-                return Err(stop);
-            }
+    table: &Table,
+    words: &[Piece<'_>],
+    spot: &Spot<'_>,
+) -> Result<(), WriteStop>
+    requires { IsSpot (entries_of (collation table.now)) spot.now }
+    ensures { Writes (W.taken out.old) (W.taken out.new) (W.failed out.old) (W.failed out.new)
+        (place_told (collation table.now) (flat_map piece_bytes words.now) (spot_place spot.now)) result }
+{
+    match write_around(out, table, spot) {
+        Ok(()) => write_last(out, words, spot),
+        Err(stop) => Err(stop),
+    }
+}
+
+// Writes the entries around a place: the three before it, the one that stands there, and the three behind it.
+fn write_around<W: Sink>(out: &mut W, table: &Table, spot: &Spot<'_>) -> Result<(), WriteStop>
+    requires { IsSpot (entries_of (collation table.now)) spot.now }
+    ensures { Writes (W.taken out.old) (W.taken out.new) (W.failed out.old) (W.failed out.new)
+        (around (entries_of (collation table.now)) spot.now.rank) result }
+{
+    table.lemma_well_formed();
+    let second = entry_before(table, spot.before);
+    let first = entry_before(table, second);
+    let next = entry_behind(table, spot.behind);
+    let last = entry_behind(table, next);
+    write_marked(
+        out,
+        &[
+            beside(spot.rank.saturating_sub(3), first),
+            beside(spot.rank.saturating_sub(2), second),
+            beside(spot.rank.saturating_sub(1), spot.before),
+            MarkedLine {
+                mark: b"> ",
+                rank: spot.rank,
+                entry: spot.here,
+            },
+            beside(spot.rank + 1, spot.behind),
+            beside(spot.rank + 2, next),
+            beside(spot.rank + 3, last),
+        ],
+    )
+}
+
+// The line of an entry beside the one that is shown.
+fn beside(rank: u64, one: Option<&Entry>) -> MarkedLine<'_>
+    ensures { marked_bytes result ≡ line_if (codes "  ") rank (option_copied one.entry) }
+{
+    MarkedLine {
+        mark: b"  ",
+        rank,
+        entry: one,
+    }
+}
+
+// Writes lines, one behind another.
+fn write_marked<W: Sink>(out: &mut W, lines: &[MarkedLine<'_>]) -> Result<(), WriteStop>
+    ensures { Writes (W.taken out.old) (W.taken out.new) (W.failed out.old) (W.failed out.new) (flat_map marked_bytes lines.now) result }
+{
+    for line in lines {
+        // Not `?`: behind its conversion this exit would need a lemma.
+        if let Err(stop) = write_line(out, line) {
+            return Err(stop);
         }
-        distance = distance.saturating_sub(1);
     }
     Ok(())
 }
 
-// Writes the entries behind the one with a rank.
-fn write_behind<W: Sink>(
-    out: &mut W,
-    behind: &[Option<&Entry>],
-    rank: u64,
-) -> Result<(), WriteStop> {
-    let mut next = rank;
-    for kept in behind {
-        next = next.saturating_add(1);
-        if let Some(entry) = kept {
-            if let Err(stop) = write_line(out, b"  ", next, *entry) {
-                return Err(stop);
-            }
-        }
+// Writes a line, if it has an entry.
+fn write_line<W: Sink>(out: &mut W, line: &MarkedLine<'_>) -> Result<(), WriteStop>
+    ensures { Writes (W.taken out.old) (W.taken out.new) (W.failed out.old) (W.failed out.new) (marked_bytes line.now) result }
+{
+    match line.entry {
+        Some(entry) => write_ranked(out, line.mark, line.rank, entry),
+        None => Ok(()),
     }
-    Ok(())
 }
 
 // Writes an entry behind a mark and its rank.
-fn write_line<W: Sink>(
+fn write_ranked<W: Sink>(
     out: &mut W,
     mark: &[u8],
     rank: u64,
     entry: &Entry,
-) -> Result<(), WriteStop> {
-    write_pieces(
-        out,
-        &[Piece::Bytes(mark), Piece::Number(rank), Piece::Bytes(b" ")],
-    )?;
-    write_weighed(out, entry)?;
-    write_pieces(out, &[Piece::Bytes(b"\n")])
+) -> Result<(), WriteStop>
+    ensures { Writes (W.taken out.old) (W.taken out.new) (W.failed out.old) (W.failed out.new)
+        (line_if mark.now rank (Some entry.now)) result }
+{
+    let head = [Piece::Bytes(mark), Piece::Number(rank), Piece::Bytes(b" ")];
+    match write_pieces(out, &head) {
+        Ok(()) => write_weighed(out, entry),
+        Err(stop) => Err(stop),
+    }
 }
 
-// Writes the last line: what was shown, its rank, and its section, if that has a name.
-fn write_place<W: Sink>(
-    out: &mut W,
-    word: &[u8],
-    id: Option<&Id>,
-    spot: Spot<'_>,
-) -> Result<(), WriteStop> {
-    write_pieces(out, &[Piece::Bytes(word), Piece::Bytes(b" ")])?;
-    if let Some(id) = id {
-        write_pieces(out, &[Piece::Id(id), Piece::Bytes(b" ")])?;
+// Writes the last line: these words, the rank of a place, and its section, if that has a name.
+fn write_last<W: Sink>(out: &mut W, words: &[Piece<'_>], spot: &Spot<'_>) -> Result<(), WriteStop>
+    ensures { Writes (W.taken out.old) (W.taken out.new) (W.failed out.old) (W.failed out.new)
+        (flat_map piece_bytes words.now ++ rank_line spot.now.rank (option_map (λ name. chars name.now) spot.now.section)) result }
+{
+    match write_pieces(out, words) {
+        Ok(()) => write_rank(out, spot.rank, spot.section),
+        Err(stop) => Err(stop),
     }
-    write_pieces(out, &[Piece::Number(spot.rank)])?;
-    if let Some(name) = spot.section {
-        write_pieces(out, &[Piece::Bytes(b" "), Piece::Symbol(name)])?;
+}
+
+// Writes a rank, and the name of a section, if there is one.
+fn write_rank<W: Sink>(out: &mut W, rank: u64, section: Option<&str>) -> Result<(), WriteStop>
+    ensures { Writes (W.taken out.old) (W.taken out.new) (W.failed out.old) (W.failed out.new)
+        (rank_line rank (option_map (λ name. chars name.now) section.entry)) result }
+{
+    match section {
+        Some(name) => write_pieces(
+            out,
+            &[
+                Piece::Number(rank),
+                Piece::Bytes(b" "),
+                Piece::Symbol(name),
+                Piece::Bytes(b"\n"),
+            ],
+        ),
+        None => write_pieces(out, &[Piece::Number(rank), Piece::Bytes(b"\n")]),
     }
-    write_pieces(out, &[Piece::Bytes(b"\n")])?;
-    flush(out)
 }

@@ -1,13 +1,24 @@
 //! A list of words in the order now, those marked whose neighbours the last statement changed.
 //!
-//! The words are put in order by the table before the last statement that remains, and each is told which words stand beside it; then
-//! they are put in order by the table now, and a word is marked where others stand beside it. Where no statement remains both tables
-//! are the same, and so are both orders: the words are put in order once. Words that compare equal stay in the order of their lines,
-//! in both orders. What their keys are made by is told by `word_keys`.
+//! `write_words` carries what is said of it (`ListsWords`). The words are put in order by the table before the last statement that
+//! remains, and each is told which words stand beside it; then they are put in order by the table now, and a word is marked where
+//! others stand beside it. Where no statement remains both tables are the same, and so are both orders: the words are put in order
+//! once. Words that compare equal stay in the order of their lines, in both orders. What their keys are made by is told by `word_keys`,
+//! and what is kept beside a word by `ToldLists`.
 
-ghost use Rattle.std.specs.Prelude.{◌≡◌};
-ghost use Rattle.coll_bench.specs.Serving.{block_of, history_of, lexer_of};
+ghost use Rattle.std.specs.Prelude.{◌≡◌, ◌++◌, ◌∷◌, [], chars, drop, false, length, IfErr, IfOk, OnOk};
+ghost use Rattle.std.specs.List.Sorted.{IsPermutation, IsSorted};
+ghost use Rattle.coll_devices.specs.Devices.{Sends, Writes};
+ghost use Rattle.coll_devices.specs.PhysicalLines.{line_feed};
+ghost use Rattle.coll_nodes.specs.Table.{Collation};
+ghost use Rattle.coll_nodes.specs.TableLayout.{collation};
+ghost use Rattle.coll_history.specs.Histories.{table_now};
+ghost use Rattle.coll_bench.specs.Serving.{block_of, history_of, lexer_of, write_failed as failed_write};
+ghost use Rattle.coll_words.specs.NumberedWords.{line_order, numbered_from};
+ghost use Rattle.coll_edit.specs.ToldLists.{AreKeyedLines, AreLinesOf, AreListedBy, IsSortedAnew, IsToldFrom, ListsAnew, ListsWordsOf, PutsWord};
+ghost use Rattle.coll_edit.specs.ToldLists.{all_numbered, has_others, list_bytes, marked_lines, told, without_keys};
 ghost use Rattle.coll_edit.specs.WordKeys.{Serves};
+ghost use Rattle.coll_edit.specs.WordLists.{IsStarved, ListingFails, ListsWords, first_line, mark, table_before};
 
 use crate::replies::write_count;
 use crate::word_keys::{WordKeys, are_few, looks_for};
@@ -41,6 +52,7 @@ pub(crate) fn write_words<R: Source, W: Sink>(
     input: &mut R,
     out: &mut W,
 ) -> Result<(), RunFault>
+    ensures listed { ListsWords (history_of run.old) (R.left input.old) (R.left input.new) (W.taken out.old) (W.taken out.new) result }
     ensures history { history_of run.new ≡ history_of run.old }
     ensures block { block_of run.new ≡ block_of run.old }
     ensures parser { lexer_of run.new ≡ lexer_of run.old }
@@ -49,10 +61,7 @@ pub(crate) fn write_words<R: Source, W: Sink>(
         Ok(list) => {
             let wrote = write_list(out, &list);
             drop(list);
-            match wrote {
-                Ok(()) => Ok(()),
-                Err(stop) => Err(write_failed(stop)),
-            }
+            wrote
         }
         Err(ended) => Err(ended),
     }
@@ -64,15 +73,24 @@ fn list_words<R: Source>(
     run: &mut RunState,
     input: &mut R,
 ) -> Result<Vec<ListedWord>, RunFault>
+    ensures words { IfOk result (λ list. ListsWordsOf (history_of run.old) (R.left input.old) list.items) }
+    ensures fault { IfErr result (λ ended. ListingFails (R.left input.old) (R.left input.new) ended) }
     ensures history { history_of run.new ≡ history_of run.old }
     ensures block { block_of run.new ≡ block_of run.old }
     ensures parser { lexer_of run.new ≡ lexer_of run.old }
 {
-    let changed = run.session().remaining_len() > 0;
+    let changed = has_changed(run);
     match read_before(alloc, run, input) {
         Ok(list) => list_anew(alloc, run, changed, list),
         Err(ended) => Err(ended),
     }
+}
+
+// Whether a statement remains, so that the table now may be another one than that before it.
+fn has_changed(run: &RunState) -> bool
+    ensures { result ≡ false → table_before (history_of run.now) ≡ table_now (history_of run.now) }
+{
+    run.session().remaining_len() != 0
 }
 
 // The words of an input, with keys by the table before the last statement that remains, if one does.
@@ -81,6 +99,9 @@ fn read_before<R: Source>(
     run: &mut RunState,
     input: &mut R,
 ) -> Result<Vec<ListedWord>, RunFault>
+    ensures lines { IfOk result (λ list. AreLinesOf (R.left input.old) list.items) }
+    ensures keyed { IfOk result (λ list. AreListedBy (table_before (history_of run.old)) list.items) }
+    ensures fault { IfErr result (λ ended. ListingFails (R.left input.old) (R.left input.new) ended) }
     ensures history { history_of run.new ≡ history_of run.old }
     ensures block { block_of run.new ≡ block_of run.old }
     ensures parser { lexer_of run.new ≡ lexer_of run.old }
@@ -101,7 +122,10 @@ fn read_keyed<R: Source>(
     run: &mut RunState,
     input: &mut R,
 ) -> Result<Vec<ListedWord>, RunFault>
-    ensures { run.new ≡ run.old }
+    ensures lines { IfOk result (λ list. AreLinesOf (R.left input.old) list.items) }
+    ensures keyed { IfOk result (λ list. AreListedBy (table_now (history_of run.old)) list.items) }
+    ensures fault { IfErr result (λ ended. ListingFails (R.left input.old) (R.left input.new) ended) }
+    ensures unchanged { run.new ≡ run.old }
 {
     match read_texts(alloc, input) {
         Ok(texts) => keyed(alloc, run, texts),
@@ -115,7 +139,10 @@ fn keyed(
     run: &mut RunState,
     texts: Vec<TextBuf>,
 ) -> Result<Vec<ListedWord>, RunFault>
-    ensures { run.new ≡ run.old }
+    ensures lines { IfOk result (λ list. all_numbered list.items ≡ numbered_from 1 texts.items) }
+    ensures keyed { IfOk result (λ list. AreListedBy (table_now (history_of run.old)) list.items) }
+    ensures fault { IfErr result (λ ended. IsStarved ended) }
+    ensures unchanged { run.new ≡ run.old }
 {
     let looks = looks_for_texts(&texts);
     match make_ready(run, looks) {
@@ -143,7 +170,11 @@ fn keyed_by(
     run: &RunState,
     looks: usize,
     texts: Vec<TextBuf>,
-) -> Result<Vec<ListedWord>, RunFault> {
+) -> Result<Vec<ListedWord>, RunFault>
+    ensures lines { IfOk result (λ list. all_numbered list.items ≡ numbered_from 1 texts.items) }
+    ensures keyed { IfOk result (λ list. AreListedBy (table_now (history_of run.now)) list.items) }
+    ensures fault { IfErr result (λ ended. IsStarved ended) }
+{
     let table = run.session().table();
     match WordKeys::new(alloc, table, run.places(), looks) {
         Ok(keys) => {
@@ -175,7 +206,11 @@ fn listed(
     texts: Vec<TextBuf>,
 ) -> Result<Vec<ListedWord>, RunFault>
     requires { Serves keys.now table.now }
+    ensures lines { IfOk result (λ list. all_numbered list.items ≡ numbered_from 1 texts.items) }
+    ensures keyed { IfOk result (λ list. AreListedBy (collation table.now) list.items) }
+    ensures fault { IfErr result (λ ended. IsStarved ended) }
 {
+    table.lemma_well_formed();
     let mut list = Vec::new(alloc);
     for text in texts {
         let put = put_word(alloc, table, keys, text.get(), &mut list);
@@ -187,7 +222,8 @@ fn listed(
     Ok(list)
 }
 
-// Puts the word of a line behind those of the lines before it.
+// Puts the word of a line behind those of the lines before it. It has a key, unless memory is refused: no line is long enough to have
+// a word without one.
 fn put_word(
     alloc: Global,
     table: &Table,
@@ -196,6 +232,8 @@ fn put_word(
     list: &mut Vec<ListedWord>,
 ) -> Result<(), RunFault>
     requires { Serves keys.now table.now }
+    ensures put { OnOk result (PutsWord (collation table.now) (chars text.now) list.old.items list.new.items) }
+    ensures fault { IfErr result (λ ended. IsStarved ended) }
 {
     let line = list.len() + 1;
     match keys.word(alloc, table, text) {
@@ -211,7 +249,7 @@ fn put_word(
                 Err(_) => Err(no_memory(line)),
             }
         }
-        Err(fault) => Err(fault_at(line, Fault::Key(fault))),
+        Err(_) => Err(no_memory(line)),
     }
 }
 
@@ -223,14 +261,17 @@ fn list_anew(
     changed: bool,
     words: Vec<ListedWord>,
 ) -> Result<Vec<ListedWord>, RunFault>
-    ensures { run.new ≡ run.old }
+    ensures listed { IfOk result (λ list. ListsAnew (table_now (history_of run.old)) changed words.items list.items) }
+    ensures fault { IfErr result (λ ended. IsStarved ended) }
+    ensures unchanged { run.new ≡ run.old }
 {
     let mut list = words;
     match sort_both(alloc, run, changed, &mut list) {
         Ok(()) => Ok(list),
-        Err(fault) => {
+        // For lack of memory: each word has a key.
+        Err(_) => {
             drop(list);
-            Err(fault_at(0, Fault::Key(fault)))
+            Err(no_memory(0))
         }
     }
 }
@@ -242,16 +283,24 @@ fn sort_both(
     changed: bool,
     list: &mut Vec<ListedWord>,
 ) -> Result<(), KeyFault>
-    ensures { run.new ≡ run.old }
+    ensures listed { OnOk result (ListsAnew (table_now (history_of run.old)) changed list.old.items list.new.items) }
+    ensures unchanged { run.new ≡ run.old }
+{
+    sort_told(list)?;
+    if !changed {
+        return Ok(());
+    }
+    let looks = looks_for_words(list);
+    make_ready(run, looks)?;
+    sort_anew(alloc, run, looks, list)
+}
+
+// Sorts a list by its keys, and tells its words what stands beside them.
+fn sort_told(list: &mut Vec<ListedWord>) -> Result<(), AllocError>
+    ensures { OnOk result (IsToldFrom list.old.items list.new.items) }
 {
     sort_listed(list)?;
-    tell_before(list);
-    tell_behind(list);
-    if changed {
-        let looks = looks_for_words(list);
-        make_ready(run, looks)?;
-        sort_anew(alloc, run, looks, list)?;
-    }
+    tell(list);
     Ok(())
 }
 
@@ -261,8 +310,11 @@ fn sort_anew(
     run: &RunState,
     looks: usize,
     list: &mut Vec<ListedWord>,
-) -> Result<(), KeyFault> {
+) -> Result<(), KeyFault>
+    ensures { OnOk result (IsSortedAnew (table_now (history_of run.now)) list.old.items list.new.items) }
+{
     let table = run.session().table();
+    table.lemma_well_formed();
     let keys = WordKeys::new(alloc, table, run.places(), looks)?;
     let keyed = key_anew(alloc, table, &keys, list);
     drop(keys);
@@ -281,7 +333,11 @@ fn looks_for_words(list: &[ListedWord]) -> usize {
 }
 
 // Sorts a list by its keys, and words with the same by their lines.
-fn sort_listed(list: &mut Vec<ListedWord>) -> Result<(), AllocError> {
+fn sort_listed(list: &mut Vec<ListedWord>) -> Result<(), AllocError>
+    ensures same { IsPermutation list.old.items list.new.items }
+    ensures sorted { OnOk result ((table : Collation) → AreListedBy table list.old.items
+        → IsSorted (line_order table) (all_numbered list.new.items)) }
+{
     list.sort_by(|listed, other| {
         listed
             .word
@@ -291,21 +347,18 @@ fn sort_listed(list: &mut Vec<ListedWord>) -> Result<(), AllocError> {
     Ok(())
 }
 
-// Tells each word of a list which one stands before it.
-fn tell_before(list: &mut [ListedWord]) {
+// Tells each word of a list which ones stand beside it.
+fn tell(list: &mut [ListedWord])
+    ensures told { list.new ≡ told 0 list.old }
+    ensures len { length list.new ≡ length list.old }
+{
     let mut before = 0;
-    for listed in list.iter_mut() {
+    for place in 0..list.len() {
+        let behind = line_at(list, place + 1);
+        let listed = &mut list[place];
         listed.before = before;
-        before = listed.line;
-    }
-}
-
-// Tells each word of a list which one stands behind it.
-fn tell_behind(list: &mut [ListedWord]) {
-    let mut behind = 0;
-    for listed in list.iter_mut().rev() {
         listed.behind = behind;
-        behind = listed.line;
+        before = listed.line;
     }
 }
 
@@ -317,6 +370,9 @@ fn key_anew(
     list: &mut [ListedWord],
 ) -> Result<(), KeyFault>
     requires { Serves keys.now table.now }
+    ensures same { OnOk result (without_keys list.new ≡ without_keys list.old) }
+    ensures keyed { OnOk result (AreKeyedLines (collation table.now) list.new) }
+    ensures len { length list.new ≡ length list.old }
 {
     for listed in list.iter_mut() {
         match keys.word(alloc, table, listed.word.text()) {
@@ -328,30 +384,66 @@ fn key_anew(
 }
 
 // Writes a list of words, and how many they are.
-fn write_list<W: Sink>(out: &mut W, list: &[ListedWord]) -> Result<(), WriteStop> {
+fn write_list<W: Sink>(out: &mut W, list: &[ListedWord]) -> Result<(), RunFault>
+    ensures sent { Sends (W.taken out.old) (W.taken out.new) (list_bytes list.now) result }
+    ensures fault { IfErr result (λ ended. ended ≡ failed_write) }
+{
+    match write_counted_words(out, list) {
+        Ok(()) => Ok(()),
+        Err(stop) => Err(write_failed(stop)),
+    }
+}
+
+// Writes words, each behind its mark, and how many they are.
+fn write_counted_words<W: Sink>(out: &mut W, list: &[ListedWord]) -> Result<(), WriteStop>
+    ensures { Sends (W.taken out.old) (W.taken out.new) (list_bytes list.now) result }
+{
+    match write_marked_words(out, list) {
+        Ok(()) => write_count(out, b"words", list.len() as u64),
+        Err(stop) => Err(stop),
+    }
+}
+
+// Writes words, each behind its mark.
+fn write_marked_words<W: Sink>(out: &mut W, list: &[ListedWord]) -> Result<(), WriteStop>
+    ensures { Writes (W.taken out.old) (W.taken out.new) (W.failed out.old) (W.failed out.new) (marked_lines 0 list.now) result }
+{
     let mut before = 0;
-    for (place, listed) in list.iter().enumerate() {
-        let behind = line_at(list, place + 1);
-        let changed = listed.before != before || listed.behind != behind;
-        if let Err(stop) = write_marked(out, changed, listed.word.text()) {
+    let mut left = list;
+    while let Some((listed, later)) = left.split_first() {
+        let marked = has_others(listed, before, line_at(later, 0));
+        // Not `?`: behind its conversion this exit would need a lemma.
+        if let Err(stop) = write_behind(out, mark(marked), listed.word.text()) {
             return Err(stop);
         }
         before = listed.line;
+        left = later;
     }
-    write_count(out, b"words", list.len() as u64)
+    Ok(())
+}
+
+// Whether other words stand beside a word than those that it was told.
+fn has_others(listed: &ListedWord, before: usize, behind: usize) -> bool
+    ensures { result ≡ has_others listed.now before behind }
+{
+    listed.before != before || listed.behind != behind
 }
 
 // The line of the word at a place, or 0 where there is none.
-fn line_at(list: &[ListedWord], place: usize) -> usize {
+fn line_at(list: &[ListedWord], place: usize) -> usize
+    ensures { result ≡ first_line (all_numbered (drop place list.now)) }
+{
     match list.get(place) {
         Some(listed) => listed.line,
         None => 0,
     }
 }
 
-// Writes a word behind its mark, or behind blanks.
-fn write_marked<W: Sink>(out: &mut W, marked: bool, word: &str) -> Result<(), WriteStop> {
-    let mark: &[u8] = if marked { b"* " } else { b"  " };
+// Writes a word behind its mark, and a line feed.
+fn write_behind<'a, W: Sink>(out: &mut W, mark: &'a [u8], word: &'a str) -> Result<(), WriteStop>
+    ensures { Writes (W.taken out.old) (W.taken out.new) (W.failed out.old) (W.failed out.new)
+        (mark.now ++ (word.now ++ line_feed ∷ [])) result }
+{
     write_pieces(
         out,
         &[
@@ -362,16 +454,20 @@ fn write_marked<W: Sink>(out: &mut W, marked: bool, word: &str) -> Result<(), Wr
     )
 }
 
-// Lack of memory at a line, or at none.
-fn no_memory(line: usize) -> RunFault {
-    fault_at(line, Fault::Lex(LexFault::OutOfMemory))
+// What stands before a word.
+fn mark(marked: bool) -> &'static [u8]
+    ensures { result.now ≡ mark marked }
+{
+    if marked { b"* " } else { b"  " }
 }
 
-// A fault at a line, or at none: no input has so many lines that one has no number here.
-fn fault_at(line: usize, fault: Fault) -> RunFault {
+// Lack of memory at a line, or at none: no input has so many lines that one has no number here.
+fn no_memory(line: usize) -> RunFault
+    ensures { IsStarved result }
+{
     RunFault {
         input: 0,
         line: u32::try_from(line).unwrap_or(0),
-        fault,
+        fault: Fault::Lex(LexFault::OutOfMemory),
     }
 }

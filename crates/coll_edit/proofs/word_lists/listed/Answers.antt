@@ -1,0 +1,13 @@
+-- Each text in turn is put.
+use Rattle.std.proofs.Common.{ℕ, List, ap, sym, subst, ◌∙◌}
+use Rattle.std.proofs.lemmas.Iterator.Adapters.{YieldsList-from_vec}
+use Rattle.std.proofs.lemmas.Iterator.Consumers.{YieldsList-end}
+use Rattle.coll_nodes.specs.TableLayout.{collation}
+use Rattle.coll_edit.specs.ToldLists.{PutsWord}
+use Rattle.coll_edit.proofs.ToldLemmas.{numbered_more}
+use Rattle.coll_edit.proofs.word_lists.listed.Goals as goal
+
+pub loop-text-preserved : goal.loop-text-preserved
+loop-text-preserved c =
+    numbered_more (collation c.args.table.now) c.loop-text.yielded c.in-Some.text c.loop-text.list.items c.put_word-put.new.list.items c.loop-text.invariant
+    (subst (λ (text : List ℕ). PutsWord (collation c.args.table.now) text c.loop-text.list.items c.put_word-put.new.list.items) c.get.ensures.characters c.in_default.ensures.put)
