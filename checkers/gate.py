@@ -1,8 +1,8 @@
 #!/usr/bin/env python3
-"""The merge gate: whether each edit of crates/*/more-edits/ can still be applied, `rt ci`, and then the runs of the programs that it
-built, withdrawals from random histories, explanations of pairs, reviews of random delta files, imports of random ranges and edits
-at a terminal among them, and whether the version that is told is that of the changelog and of the kit. What the prover says of
-those edits, `make edits` tells.
+"""The merge gate: whether each edit of crates/*/more-edits/ can still be applied, whether the code tells of each fault what is
+documented, `rt ci`, and then the runs of the programs that it built, withdrawals from random histories, explanations of pairs,
+reviews of random delta files, imports of random ranges, lints of damaged texts and edits at a terminal among them, and whether the
+version that is told is that of the changelog and of the kit. What the prover says of those edits, `make edits` tells.
 
 usage: checkers/gate.py
 
@@ -13,6 +13,8 @@ import re
 import subprocess
 import sys
 
+import advice_of_faults
+import damaged_texts
 import edit_terminal
 import edits
 import explained_pairs
@@ -70,6 +72,8 @@ def version():
 def main():
     can_be_applied = edits.run_all()
     print(f"edits that can be applied: {can_be_applied[0]} passed, {can_be_applied[1]} failed", flush=True)
+    advised = advice_of_faults.run_all()
+    print(f"faults told as they are documented: {advised[0]} passed, {advised[1]} failed", flush=True)
     proved = proofs_and_tests()
     ran = run_program.run_all(run_program.PROGRAM)
     print(f"runs of the program: {ran[0]} passed, {ran[1]} failed")
@@ -81,14 +85,17 @@ def main():
     print(f"reviews of random delta files: {reviewed[0]} passed, {reviewed[1]} failed")
     spelled = random_ranges.run_all(run_program.PROGRAM)
     print(f"imports of random ranges: {spelled[0]} passed, {spelled[1]} failed")
+    damaged = damaged_texts.run_all(run_program.PROGRAM)
+    print(f"lints of damaged texts: {damaged[0]} passed, {damaged[1]} failed")
     edited = edit_terminal.run_all(run_program.PROGRAM)
     print(f"edits at a terminal: {edited[0]} passed, {edited[1]} failed")
     refused = refuse_growths.run_all()
     print(f"runs with refused growths: {refused[0]} passed, {refused[1]} failed")
     told = version()
     print(f"version: {told[0]} passed, {told[1]} failed")
-    parts = (can_be_applied, proved, ran, withdrawn, explained, reviewed, spelled, edited, refused, told)
-    passed, failed = (sum(counts) for counts in zip(*parts))
+    proofs = (can_be_applied, advised, proved)
+    runs = (ran, withdrawn, explained, reviewed, spelled, damaged, edited, refused, told)
+    passed, failed = (sum(counts) for counts in zip(*proofs, *runs))
     print(f"{passed} passed, {failed} failed")
     return 1 if failed or not ran[0] else 0
 
