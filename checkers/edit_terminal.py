@@ -6,13 +6,14 @@ usage: checkers/edit_terminal.py [PROGRAM]
 PROGRAM is crates/collbench/out/collbench where none is given. Standard input, output and errors are one terminal, which shows no
 typed line again. Each step types a line, and what stands on the screen until the next prompt has to be as stated, the prompt
 included; so a reply comes before the next prompt, and what a refusal says comes behind its reply. A session ends with a line that
-asks for the end, or with the key for it.
+asks for the end, or with the key for it. The tour of the README is one of them, over the table that stands above it.
 
 The last line is 'N passed, M failed', where a run is one session. Where the system has no pseudo-terminal none is run, and that is said.
 """
 
 import os
 import pty
+import re
 import select
 import shutil
 import subprocess
@@ -79,6 +80,31 @@ SESSIONS = [
         {},
     ),
 ]
+
+
+TOUR_WORDS = "zz\nzö\nza\n"
+
+
+def tour():
+    """Returns the session of the README's tour, as one of SESSIONS, and the texts of the table and the words that it is over.
+
+    What is typed stands behind a prompt, and begins with no digit, as the line of an entry that is shown does.
+    """
+    with open(f"{ROOT}/README.md", encoding="utf-8") as readme:
+        text = readme.read()
+    columns = text.partition("    mine.txt ")[2].partition("\n\n    $ ")[0].split("\n")[2:]
+    table = "".join(f"{line[4:40].rstrip()}\n" for line in columns)
+    steps, shown = [], text.partition("In an edit (")[2].partition("\n\n")[2].partition("\n\n")[0]
+    for line in shown.split("\n"):
+        typed = re.fullmatch(r" {4}(> |block> )(\D.*)", line)
+        if typed and steps:
+            steps[-1][1] += typed[1]
+        if typed:
+            steps.append([typed[2], ""])
+        else:
+            steps[-1][1] += f"{line[4:]}\n"
+    steps[-1][1] += "> "
+    return (["edit", "mine.txt"], steps, ":quit\n", "", {}), {"mine.txt": table, "words.txt": TOUR_WORDS}
 
 
 def read_screen(screen, wanted):
@@ -155,15 +181,16 @@ def run_all(program):
     except OSError as error:
         print(f"no edit at a terminal was run: {error}", flush=True)
         return 0, 0
-    passed = 0
-    for session in SESSIONS:
+    passed, sessions = 0, [*((session, {"words.txt": WORDS}) for session in SESSIONS), tour()]
+    for session, texts in sessions:
         with tempfile.TemporaryDirectory() as folder:
             for name in os.listdir(f"{ROOT}/examples"):
                 shutil.copy(f"{ROOT}/examples/{name}", folder)
-            with open(f"{folder}/words.txt", "w", encoding="utf-8") as words:
-                words.write(WORDS)
+            for name, text in texts.items():
+                with open(f"{folder}/{name}", "w", encoding="utf-8") as file:
+                    file.write(text)
             passed += run(program, session, folder)
-    return passed, len(SESSIONS) - passed
+    return passed, len(sessions) - passed
 
 
 if __name__ == "__main__":

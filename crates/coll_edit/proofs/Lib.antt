@@ -1,5 +1,6 @@
 pub mod AskedLemmas
 pub mod EditLemmas
+mod OwnReplyLemmas
 pub mod PutLemmas
 mod ShowingLemmas
 mod StatementLemmas

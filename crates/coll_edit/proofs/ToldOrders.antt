@@ -1,5 +1,5 @@
 -- Lists of words that are sorted by their keys, and sorted anew behind a change of the table.
-use Rattle.std.proofs.Common.{◌≡◌, ℕ, ◌+◌, ◌<◌, ◌≤◌, Bool, true, false, List, [], ◌∷◌, ◌++◌, drop, length, get_or, map, take, refl, sym, ap, subst, ◌∙◌, arith, append-nil}
+use Rattle.std.proofs.Common.{◌≡◌, ℕ, ◌+◌, Bool, List, [], ◌∷◌, ◌++◌, length, get_or, take, refl, sym, ap, subst, ◌∙◌, arith}
 use Rattle.std.specs.Prelude.{All, OnOk, Result, Ok, Err}
 use Rattle.std.specs.List.Sorted.{IsPermutation, IsSortedBy, IsSorted}
 use Rattle.std.specs.Ordering.{is_lt, nat_cmp, ordering_then}
@@ -17,7 +17,7 @@ use Rattle.coll_words.specs.NumberedWords.{AreInOrder, line_order}
 use Rattle.coll_words.specs.ReviewSteps.{HaveLines}
 use Rattle.coll_words.proofs.NeighbourLemmas.{lines_still}
 use Rattle.coll_words.proofs.SortedLemmas.{keys_order}
-use Rattle.coll_edit.specs.ToldLists.{AreKeyedLines, AreListedBy, IsListed, IsSortedAnew, IsToldFrom, IsToldIn, ListsAnew, all_numbered, numbered_of, told, without_key, without_keys}
+use Rattle.coll_edit.specs.ToldLists.{AreKeyedLines, AreListedBy, IsListed, IsSortedAnew, IsToldFrom, IsToldIn, ListsAnew, all_numbered, numbered_of, without_key, without_keys}
 use Rattle.coll_edit.specs.declared.word_lists.ListedWord.{ListedWord}
 use Rattle.coll_edit.proofs.ToldLemmas.{all_told, numbered_told}
 

@@ -1,5 +1,5 @@
 -- The words of an input are read, put in order and written.
-use Rattle.std.proofs.Common.{◌≡◌, inl, inr, ℕ, Bool, false, List, length, ◌++◌, map, codes, Option, Some, Result, Ok, Err, refl, sym, ap, subst, ◌∙◌}
+use Rattle.std.proofs.Common.{◌≡◌, inl, ℕ, Bool, false, List, length, ◌++◌, codes, Option, Some, Result, Ok, Err, sym, ap, subst, ◌∙◌}
 use Rattle.std.specs.Prelude.{IfOk, IfErr}
 use Rattle.std.specs.List.{flat_map}
 use Rattle.std.proofs.lemmas.List.{length-map}
@@ -15,7 +15,7 @@ use Rattle.coll_words.specs.WordTexts.{AreTextsOf}
 use Rattle.coll_words.proofs.NeighbourLemmas.{lines_still}
 use Rattle.coll_words.proofs.ReviewLemmas.{numbered_lines}
 use Rattle.coll_edit.specs.ToldLists.{AreLinesOf, AreListedBy, IsListed, ListsAnew, ListsWordsOf, all_numbered, list_bytes, numbered_of}
-use Rattle.coll_edit.specs.WordLists.{IsWordsText, ListingFails, ListsText, ListsWords, IsStarved, table_before, word_line, words_text}
+use Rattle.coll_edit.specs.WordLists.{ListsText, ListsWords, table_before, word_line}
 use Rattle.coll_edit.specs.declared.word_lists.ListedWord.{ListedWord}
 use Rattle.coll_edit.proofs.ToldLemmas.{marked_all}
 

@@ -2,6 +2,7 @@ pub mod Editing
 pub mod EditRuns
 pub mod Help
 pub mod OwnLines
+pub mod OwnReplies
 pub mod Showing
 pub mod ToldLists
 pub mod Watching

@@ -25,6 +25,7 @@ ghost use Rattle.coll_edit.specs.Editing.{AnswersRequest, EditsLine, IsLeft, IsL
 ghost use Rattle.coll_delta_texts.specs.DeltaText.{delta_text};
 ghost use Rattle.coll_explanations.specs.Explaining.{Explains};
 ghost use Rattle.coll_edit.specs.EditRuns.{IsUnserved};
+ghost use Rattle.coll_edit.specs.OwnReplies.{SendsAnswer, SendsExplained};
 ghost use Rattle.coll_edit.specs.Watching.{device_of};
 
 use crate::copies::copied_statement;
@@ -399,7 +400,9 @@ impl Editor {
         output: &mut Watched<W>,
         messages: &mut M,
     ) -> Result<Next, RunFault>
-        ensures { IfErr result (λ ended. ended.input ≡ 0) }
+        ensures sent { SendsAnswer (history_of (run_of self.now)) own.now (W.taken (device_of output.old))
+            (W.taken (device_of output.new)) result }
+        ensures input { IfErr result (λ ended. ended.input ≡ 0) }
     {
         let wrote = self.write_answer(own, output);
         self.tell_told(output, messages, origin_of(own));
@@ -410,11 +413,9 @@ impl Editor {
     }
 
     // Writes the answer to a line of `edit` that asks for nothing but the table and the history.
-    fn write_answer<W: Sink>(
-        &self,
-        own: &OwnLine,
-        output: &mut Watched<W>,
-    ) -> Result<(), WriteStop> {
+    fn write_answer<W: Sink>(&self, own: &OwnLine, output: &mut Watched<W>) -> Result<(), WriteStop>
+        ensures { SendsAnswer (history_of (run_of self.now)) own.now (W.taken (device_of output.old)) (W.taken (device_of output.new)) result }
+    {
         match own {
             OwnLine::Show(id) => {
                 write_shown(output, self.run.session().table(), self.run.places(), id)
@@ -444,7 +445,11 @@ impl Editor {
         text: &TextBuf,
         other: &TextBuf,
         output: &mut Watched<W>,
-    ) -> Result<(), WriteStop> {
+    ) -> Result<(), WriteStop>
+        ensures sent { SendsExplained (table_now (history_of (run_of self.now))) text.now other.now (W.taken (device_of output.old))
+            (W.taken (device_of output.new)) result }
+        ensures flushed { OnOk result (W.flushed (device_of output.new) ≡ true) }
+    {
         match self.explained(text.get(), other.get(), output) {
             Ok(()) => flush(output),
             Err(ended) => match ended.fault {

@@ -9,7 +9,7 @@
 //! - `watched`: an output that knows which refusal its last reply told (`Watching`);
 //! - `devices`: files that are opened by their names;
 //! - `replies`, `showing`, `weights`, `statements`, `word_lists` with `word_keys`, `help`: what these lines are answered (`Showing`,
-//!   `WordLists`, `ToldLists`, `WordKeys`, `Help`);
+//!   `WordLists`, `ToldLists`, `WordKeys`, `Help`, and `OwnReplies` for all that ask for nothing but the table and the history);
 //! - `messages`: prompts, and the sentence behind a refusal, for standard error;
 //! - `copies`: copies of statements, which delta files put before the first line;
 //! - `editors`: where an edit stands between two lines, and how it goes on by one (`Editing`);

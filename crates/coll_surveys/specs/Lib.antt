@@ -1,1 +1,4 @@
+pub mod DeltaSurveys
 pub mod GatheredWarnings
+pub mod TableSurveys
+pub mod ToldFaults

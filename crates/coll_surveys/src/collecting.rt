@@ -4,9 +4,10 @@
 //! there are, and the first. An identifier that isn't declared, or that a weight names and that has no entry, is told once for each of
 //! these faults.
 
-ghost use Rattle.std.specs.Prelude.{OnOk};
+ghost use Rattle.std.specs.Prelude.{◌≡◌, ◌∷◌, [], OnOk};
 ghost use Rattle.std.specs.Option.{option_map};
 ghost use Rattle.coll_surveys.specs.GatheredWarnings.{Warns};
+ghost use Rattle.coll_surveys.specs.ToldFaults.{Tells, told_fault};
 
 use crate::findings::{About, FoundFault};
 use crate::warnings::{Warning, Warnings};
@@ -111,7 +112,10 @@ impl Collected {
         line: u32,
         fault: Fault,
         about: About,
-    ) -> Result<(), AllocError> {
+    ) -> Result<(), AllocError>
+        ensures { OnOk result (Tells self.old.told.faults.items self.new.told.faults.items
+            (record { begins = begins; line = line; fault = fault } ∷ [])) }
+    {
         match self.is_new(fault.number(), &about) {
             Ok(true) => {
                 let fault = RunFault {
@@ -133,7 +137,9 @@ impl Collected {
     }
 
     // Puts a fault behind those that are told, where there is room for one more.
-    fn push(&mut self, found: FoundFault) -> Result<(), AllocError> {
+    fn push(&mut self, found: FoundFault) -> Result<(), AllocError>
+        ensures { OnOk result (Tells self.old.told.faults.items self.new.told.faults.items (told_fault found ∷ [])) }
+    {
         if self.told.faults.len() >= MOST_TOLD {
             self.told.more_faults = Some(self.input);
             drop(found);
@@ -145,14 +151,17 @@ impl Collected {
 
     /// Warns of a line, and of the name that the warning is about, if it is about one. Those of a kind come in the order of their lines.
     pub fn warn(&mut self, warning: Warning, line: u32, id: Option<&Id>) -> Result<(), AllocError>
-        ensures { OnOk result (Warns self.old.told.warnings self.new.told.warnings warning
+        ensures warned { OnOk result (Warns self.old.told.warnings self.new.told.warnings warning
             (record { line = line; id = option_map (λ id. id.now) id.entry })) }
+        ensures faults { self.new.told.faults ≡ self.old.told.faults }
     {
         self.told.warnings.add(warning, line, id)
     }
 
     // Whether a fault wasn't told yet of what it is about; from here on it was.
-    fn is_new(&mut self, number: u8, about: &About) -> Result<bool, AllocError> {
+    fn is_new(&mut self, number: u8, about: &About) -> Result<bool, AllocError>
+        ensures { self.new.told ≡ self.old.told }
+    {
         let About::Id { id, .. } = about else {
             return Ok(true);
         };

@@ -4,11 +4,19 @@
 //! and a block with faults without the lines at fault, so that what comes behind is judged by as much as possible. A line of the wrong
 //! kind in a block is told, and taken as outside of one.
 
+ghost use Rattle.std.specs.Prelude.{◌≡◌, ◌∷◌, [], map, OnOk};
+ghost use Rattle.coll_lex.specs.Names.{AreTokens};
+ghost use Rattle.coll_bench.specs.declared.faults.Fault.TheVariants as refused;
+ghost use Rattle.coll_surveys.specs.ToldFaults.{Tells, at_line};
+ghost use Rattle.coll_surveys.specs.DeltaSurveys.{alone_faults, block_faults, category_faults, end_faults, ended_faults, faults_of_line};
+ghost use Rattle.coll_surveys.specs.DeltaSurveys.{block_left, faults_told, found_fault, line_faults, open_faults, order_faults};
+ghost use Rattle.coll_surveys.specs.DeltaSurveys.{passed_faults, refused_faults, statement_faults, table_left};
+
 use crate::collecting::{Collected, Surveyed};
 use crate::findings::About;
 use crate::line_surveys::{Opening, TakesLines, survey_lines};
 use crate::open_blocks::{EndedBlock, OpenBlock, line_of};
-use crate::subjects::{about_given, refused_subject};
+use crate::subjects::{about_found, refused_subject};
 use crate::unchanged::changed_nothing;
 use crate::unplaced::{Declarations, DeclaredName};
 use crate::warnings::Warning;
@@ -81,26 +89,79 @@ impl DeltaSurvey {
     }
 
     // Tells a fault of a line.
-    fn tell(&mut self, number: u32, fault: Fault, about: About) -> Result<(), AllocError> {
+    fn tell(&mut self, number: u32, fault: Fault, about: About) -> Result<(), AllocError>
+        ensures told { OnOk result (Tells (faults_told self.old) (faults_told self.new) (at_line number fault ∷ [])) }
+        ensures table { self.new.table ≡ self.old.table }
+        ensures block { self.new.block ≡ self.old.block }
+    {
         self.told.tell(number, number, fault, about)
     }
 
     // Takes a line at fault by what it begins with: it may end a block, and open one of which the target isn't known.
-    fn pass_over(&mut self, number: u32, opening: Opening) -> Result<(), AllocError> {
+    fn pass_over(&mut self, number: u32, opening: Opening) -> Result<(), AllocError>
+        ensures { OnOk result (Tells (faults_told self.old) (faults_told self.new)
+            (passed_faults (table_left self.old) (block_left self.old) opening)) }
+    {
         match opening {
             Opening::Block => self.open_block(number, None),
             Opening::BlockEnd => self.end_block(),
             Opening::Other => {
-                if let Some(block) = &mut self.block {
-                    block.spoiled = true;
-                }
+                self.spoil();
                 Ok(())
             }
         }
     }
 
+    // Notes that the block that is open, if one is, has a line that was refused.
+    fn spoil(&mut self)
+        ensures { self.new.told ≡ self.old.told }
+    {
+        if let Some(block) = &mut self.block {
+            block.spoiled = true;
+        }
+    }
+
+    // Takes a line, and answers whether it ends the category. What is told of it is what judging it gives, over the table and with the
+    // block that the lines before it left.
+    fn take_line(&mut self, line: &Line, opening: Opening) -> Result<bool, AllocError>
+        requires { AreTokens line.now.tokens }
+        ensures { OnOk result (Tells (faults_told self.old) (faults_told self.new)
+            (faults_of_line (table_left self.old) (block_left self.old) line.now.number opening line.now.tokens)) }
+    {
+        match parse_delta_line(self.alloc, line) {
+            Ok(read) => {
+                let ends = ends_category(&read);
+                self.take_read(line.number, read)?;
+                Ok(ends)
+            }
+            Err(SyntaxFault::OutOfMemory) => Err(AllocError),
+            Err(fault) => {
+                self.refuse_line(line, fault, opening)?;
+                Ok(false)
+            }
+        }
+    }
+
+    // Tells a line that the grammar refuses, and passes it over.
+    fn refuse_line(
+        &mut self,
+        line: &Line,
+        fault: SyntaxFault,
+        opening: Opening,
+    ) -> Result<(), AllocError>
+        ensures { OnOk result (Tells (faults_told self.old) (faults_told self.new) (at_line line.now.number (refused.Syntax fault)
+            ∷ passed_faults (table_left self.old) (block_left self.old) opening)) }
+    {
+        let about = refused_subject(self.alloc, line, fault)?;
+        self.tell(line.number, Fault::Syntax(fault), about)?;
+        self.pass_over(line.number, opening)
+    }
+
     // Takes a line that the grammar accepts.
-    fn take_read(&mut self, number: u32, line: DeltaLine) -> Result<(), AllocError> {
+    fn take_read(&mut self, number: u32, line: DeltaLine) -> Result<(), AllocError>
+        ensures { OnOk result (Tells (faults_told self.old) (faults_told self.new)
+            (line_faults (table_left self.old) (block_left self.old) number line)) }
+    {
         match line {
             DeltaLine::Symbol(name) => self.take_alone(number, Statement::Symbol(name)),
             DeltaLine::Element { name, text } => {
@@ -123,7 +184,10 @@ impl DeltaSurvey {
     }
 
     // Takes a line that is a keyword alone, or of which the rest has no effect.
-    fn take_bare(&mut self, number: u32, line: &DeltaLine) -> Result<(), AllocError> {
+    fn take_bare(&mut self, number: u32, line: &DeltaLine) -> Result<(), AllocError>
+        ensures { OnOk result (Tells (faults_told self.old) (faults_told self.new)
+            (line_faults (table_left self.old) (block_left self.old) number line.now)) }
+    {
         match line {
             DeltaLine::Script => self.take_idle(number, Some(Warning::ScriptWithoutEffect)),
             DeltaLine::Copy => self.take_idle(number, Some(Warning::CopyWithoutEffect)),
@@ -135,15 +199,21 @@ impl DeltaSurvey {
     }
 
     // Tells a line that no block takes, where one is open.
-    fn tell_open(&mut self, number: u32) -> Result<(), AllocError> {
-        if self.block.is_some() {
-            return self.tell(number, Fault::BlockOpen, About::Nothing);
+    fn tell_open(&mut self, number: u32) -> Result<(), AllocError>
+        ensures told { OnOk result (Tells (faults_told self.old) (faults_told self.new) (open_faults (block_left self.old) number)) }
+        ensures table { self.new.table ≡ self.old.table }
+        ensures block { self.new.block ≡ self.old.block }
+    {
+        match self.block {
+            Some(_) => self.tell(number, Fault::BlockOpen, About::Nothing),
+            None => Ok(()),
         }
-        Ok(())
     }
 
     // Takes a line that has no effect, and warns of it.
-    fn take_idle(&mut self, number: u32, warning: Option<Warning>) -> Result<(), AllocError> {
+    fn take_idle(&mut self, number: u32, warning: Option<Warning>) -> Result<(), AllocError>
+        ensures { OnOk result (Tells (faults_told self.old) (faults_told self.new) (open_faults (block_left self.old) number)) }
+    {
         self.tell_open(number)?;
         match warning {
             Some(warning) => self.told.warn(warning, number, None),
@@ -152,24 +222,35 @@ impl DeltaSurvey {
     }
 
     // Takes `END LC_COLLATE`.
-    fn end_category(&mut self, number: u32) -> Result<(), AllocError> {
-        if self.block.is_some() {
-            self.end_block()?;
-            return self.tell(number, Fault::BlockNotEnded, About::Nothing);
+    fn end_category(&mut self, number: u32) -> Result<(), AllocError>
+        ensures { OnOk result (Tells (faults_told self.old) (faults_told self.new)
+            (category_faults (table_left self.old) (block_left self.old) number)) }
+    {
+        match self.block {
+            Some(_) => {
+                self.end_block()?;
+                self.tell(number, Fault::BlockNotEnded, About::Nothing)
+            }
+            None => Ok(()),
         }
-        Ok(())
     }
 
     // Takes `reorder-end`.
-    fn take_end(&mut self, number: u32) -> Result<(), AllocError> {
-        if self.block.is_some() {
-            return self.end_block();
+    fn take_end(&mut self, number: u32) -> Result<(), AllocError>
+        ensures { OnOk result (Tells (faults_told self.old) (faults_told self.new)
+            (end_faults (table_left self.old) (block_left self.old) number)) }
+    {
+        match self.block {
+            Some(_) => self.end_block(),
+            None => self.tell(number, Fault::NoBlock, About::Nothing),
         }
-        self.tell(number, Fault::NoBlock, About::Nothing)
     }
 
     // Opens a block behind a target, or of which the target isn't known. It ends the one that is open.
-    fn open_block(&mut self, number: u32, target: Option<Id>) -> Result<(), AllocError> {
+    fn open_block(&mut self, number: u32, target: Option<Id>) -> Result<(), AllocError>
+        ensures { OnOk result (Tells (faults_told self.old) (faults_told self.new)
+            (block_faults (table_left self.old) (block_left self.old))) }
+    {
         self.end_block()?;
         drop(
             self.block
@@ -179,14 +260,20 @@ impl DeltaSurvey {
     }
 
     // Takes a statement that is a line of its own.
-    fn take_alone(&mut self, number: u32, statement: Statement) -> Result<(), AllocError> {
+    fn take_alone(&mut self, number: u32, statement: Statement) -> Result<(), AllocError>
+        ensures { OnOk result (Tells (faults_told self.old) (faults_told self.new)
+            (alone_faults (table_left self.old) (block_left self.old) number statement)) }
+    {
         let taken = self.judge_alone(number, &statement);
         drop(statement);
         taken
     }
 
     // Judges a statement that is a line of its own, and notes what it declares where the table takes it.
-    fn judge_alone(&mut self, number: u32, statement: &Statement) -> Result<(), AllocError> {
+    fn judge_alone(&mut self, number: u32, statement: &Statement) -> Result<(), AllocError>
+        ensures { OnOk result (Tells (faults_told self.old) (faults_told self.new)
+            (alone_faults (table_left self.old) (block_left self.old) number statement.now)) }
+    {
         self.tell_open(number)?;
         if self.judge(number, statement)? {
             return self.note(number, statement);
@@ -195,7 +282,9 @@ impl DeltaSurvey {
     }
 
     // Notes the name of a symbol or an element that a statement declares.
-    fn note(&mut self, number: u32, statement: &Statement) -> Result<(), AllocError> {
+    fn note(&mut self, number: u32, statement: &Statement) -> Result<(), AllocError>
+        ensures { self.new.told ≡ self.old.told }
+    {
         match statement {
             Statement::Symbol(name) => {
                 let name = name.try_copy()?;
@@ -212,7 +301,10 @@ impl DeltaSurvey {
     }
 
     // Takes an order line, in a block or outside of one.
-    fn take_order(&mut self, number: u32, order: OrderLine) -> Result<(), AllocError> {
+    fn take_order(&mut self, number: u32, order: OrderLine) -> Result<(), AllocError>
+        ensures { OnOk result (Tells (faults_told self.old) (faults_told self.new)
+            (order_faults (table_left self.old) (block_left self.old) number order)) }
+    {
         match self.mention(&order.id) {
             Ok(()) => self.put_order(number, order),
             Err(error) => {
@@ -223,7 +315,10 @@ impl DeltaSurvey {
     }
 
     // Puts an order line into the block that is open, and tells the first one that is too many; where none is, it is judged.
-    fn put_order(&mut self, number: u32, order: OrderLine) -> Result<(), AllocError> {
+    fn put_order(&mut self, number: u32, order: OrderLine) -> Result<(), AllocError>
+        ensures { OnOk result (Tells (faults_told self.old) (faults_told self.new)
+            (order_faults (table_left self.old) (block_left self.old) number order)) }
+    {
         match &mut self.block {
             Some(block) if !block.is_full() => block.push(number, order),
             Some(block) => {
@@ -240,7 +335,11 @@ impl DeltaSurvey {
     }
 
     // Notes the identifier of an order line, by its own name.
-    fn mention(&mut self, id: &Id) -> Result<(), AllocError> {
+    fn mention(&mut self, id: &Id) -> Result<(), AllocError>
+        ensures told { self.new.told ≡ self.old.told }
+        ensures table { self.new.table ≡ self.old.table }
+        ensures block { self.new.block ≡ self.old.block }
+    {
         let Id::Named(name) = id else {
             return Ok(());
         };
@@ -254,7 +353,10 @@ impl DeltaSurvey {
     }
 
     // Ends the block that is open, if one is, and judges it.
-    fn end_block(&mut self) -> Result<(), AllocError> {
+    fn end_block(&mut self) -> Result<(), AllocError>
+        ensures { OnOk result (Tells (faults_told self.old) (faults_told self.new)
+            (block_faults (table_left self.old) (block_left self.old))) }
+    {
         match self.block.take() {
             Some(block) => self.judge_ended(block.end()),
             None => Ok(()),
@@ -262,7 +364,9 @@ impl DeltaSurvey {
     }
 
     // Judges a block that has ended, where its first line wasn't refused.
-    fn judge_ended(&mut self, ended: Option<EndedBlock>) -> Result<(), AllocError> {
+    fn judge_ended(&mut self, ended: Option<EndedBlock>) -> Result<(), AllocError>
+        ensures { OnOk result (Tells (faults_told self.old) (faults_told self.new) (ended_faults (table_left self.old) ended)) }
+    {
         match ended {
             Some(mut block) => {
                 let judged = self.judge_block(&mut block);
@@ -274,7 +378,10 @@ impl DeltaSurvey {
     }
 
     // Judges a block, and puts it to the table, without the lines that are at fault.
-    fn judge_block(&mut self, block: &mut EndedBlock) -> Result<(), AllocError> {
+    fn judge_block(&mut self, block: &mut EndedBlock) -> Result<(), AllocError>
+        ensures { OnOk result (Tells (faults_told self.old) (faults_told self.new)
+            (statement_faults (table_left self.old) block.old.begins block.old.numbers.items block.old.statement)) }
+    {
         if !block.statement.is_proper() {
             return Ok(());
         }
@@ -283,16 +390,17 @@ impl DeltaSurvey {
             drop(found);
             return self.put(block.begins, &block.statement, block.spoiled);
         }
-        self.judge_at_fault(block, found)
+        let judged = self.judge_at_fault(block, found.as_slice());
+        drop(found);
+        judged
     }
 
     // Tells the faults of a block, and puts what is left of it to the table.
-    fn judge_at_fault(
-        &mut self,
-        block: &mut EndedBlock,
-        found: Vec<Found>,
-    ) -> Result<(), AllocError> {
-        let left = block.mend(self.alloc, found.as_slice());
+    fn judge_at_fault(&mut self, block: &mut EndedBlock, found: &[Found]) -> Result<(), AllocError>
+        ensures { OnOk result (Tells (faults_told self.old) (faults_told self.new)
+            (map (found_fault block.old.begins block.old.numbers.items) found.now)) }
+    {
+        let left = block.mend(self.alloc, found);
         self.tell_found(block.begins, block.numbers.as_slice(), found)?;
         if left {
             return self.put_mended(&block.statement);
@@ -302,7 +410,10 @@ impl DeltaSurvey {
 
     // Judges a statement that is no block, and puts it to the table where it has no fault. The answer is whether it has none. In a block
     // that is open it is at fault itself, and no warning is told of it, so that those of blocks and of statements come line by line.
-    fn judge(&mut self, number: u32, statement: &Statement) -> Result<bool, AllocError> {
+    fn judge(&mut self, number: u32, statement: &Statement) -> Result<bool, AllocError>
+        ensures { OnOk result (Tells (faults_told self.old) (faults_told self.new)
+            (statement_faults (table_left self.old) number [] statement.now)) }
+    {
         if !statement.is_proper() {
             return Ok(false);
         }
@@ -312,7 +423,9 @@ impl DeltaSurvey {
             self.put(number, statement, in_block)?;
             return Ok(true);
         }
-        self.tell_found(number, &[], found)?;
+        let told = self.tell_found(number, &[], found.as_slice());
+        drop(found);
+        told?;
         Ok(false)
     }
 
@@ -321,23 +434,31 @@ impl DeltaSurvey {
         &mut self,
         begins: u32,
         numbers: &[u32],
-        found: Vec<Found>,
-    ) -> Result<(), AllocError> {
+        found: &[Found],
+    ) -> Result<(), AllocError>
+        ensures { OnOk result (Tells (faults_told self.old) (faults_told self.new) (map (found_fault begins numbers.now) found.now)) }
+    {
         for fault in found {
-            let line = line_of(begins, numbers, &fault);
-            let Found {
-                line: _,
-                refusal,
-                id,
-            } = fault;
-            self.told
-                .tell(begins, line, Fault::Table(refusal), about_given(id))?;
+            self.tell_one(begins, numbers, fault)?;
         }
         Ok(())
     }
 
+    // Tells a fault that was found in a statement like that.
+    fn tell_one(&mut self, begins: u32, numbers: &[u32], found: &Found) -> Result<(), AllocError>
+        ensures { OnOk result (Tells (faults_told self.old) (faults_told self.new) (found_fault begins numbers.now found.now ∷ [])) }
+    {
+        let about = about_found(found)?;
+        let line = line_of(begins, numbers, found);
+        self.told
+            .tell(begins, line, Fault::Table(found.refusal), about)
+    }
+
     // Puts a statement without fault to the table, and warns where it changes nothing, unless a part of it was refused.
-    fn put(&mut self, number: u32, statement: &Statement, spoiled: bool) -> Result<(), AllocError> {
+    fn put(&mut self, number: u32, statement: &Statement, spoiled: bool) -> Result<(), AllocError>
+        ensures { OnOk result (Tells (faults_told self.old) (faults_told self.new)
+            (refused_faults (table_left self.old) number statement.now)) }
+    {
         if !statement.is_proper() {
             return Ok(());
         }
@@ -356,7 +477,9 @@ impl DeltaSurvey {
     }
 
     // Puts what is left of a block to the table. Where that is refused, the block was told already.
-    fn put_mended(&mut self, statement: &Statement) -> Result<(), AllocError> {
+    fn put_mended(&mut self, statement: &Statement) -> Result<(), AllocError>
+        ensures { self.new.told ≡ self.old.told }
+    {
         if !statement.is_proper() {
             return Ok(());
         }
@@ -373,20 +496,7 @@ impl DeltaSurvey {
 
 impl TakesLines for DeltaSurvey {
     fn take(&mut self, line: &Line, opening: Opening) -> Result<bool, AllocError> {
-        match parse_delta_line(self.alloc, line) {
-            Ok(read) => {
-                let ends = ends_category(&read);
-                self.take_read(line.number, read)?;
-                Ok(ends)
-            }
-            Err(SyntaxFault::OutOfMemory) => Err(AllocError),
-            Err(fault) => {
-                let about = refused_subject(self.alloc, line, fault)?;
-                self.tell(line.number, Fault::Syntax(fault), about)?;
-                self.pass_over(line.number, opening)?;
-                Ok(false)
-            }
-        }
+        self.take_line(line, opening)
     }
 
     fn refuse(&mut self, number: u32, opening: Opening, fault: LexFault) -> Result<(), AllocError> {

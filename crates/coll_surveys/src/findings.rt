@@ -40,7 +40,8 @@ pub struct FoundFault {
 impl FoundFault {
     /// A fault at a line of its own, with what to do by its number.
     pub fn new(fault: RunFault, line: u32, about: About) -> FoundFault
-        ensures { result.fault ≡ fault }
+        ensures fault { result.fault ≡ fault }
+        ensures line { result.line ≡ line }
     {
         FoundFault {
             fault,

@@ -1,5 +1,9 @@
 //! A block of a delta file that is surveyed: its lines are gathered, and judged where it ends.
 
+ghost use Rattle.std.specs.Prelude.{◌≡◌, nat_le, length};
+ghost use Rattle.coll_requests.specs.Limits.{most_block_lines};
+ghost use Rattle.coll_surveys.specs.DeltaSurveys.{ended_block, line_of as stated_line};
+
 use coll_advice::Found;
 use coll_lex::ListBuf;
 use coll_syntax::{Id, MOST_BLOCK_LINES, OrderLine, Statement};
@@ -78,7 +82,9 @@ impl OpenBlock {
     }
 
     /// Whether it has all the lines that it may have.
-    pub fn is_full(&self) -> bool {
+    pub fn is_full(&self) -> bool
+        ensures { result ≡ nat_le most_block_lines (length self.now.lines.items) }
+    {
         self.lines.len() >= MOST_BLOCK_LINES
     }
 
@@ -90,7 +96,9 @@ impl OpenBlock {
     }
 
     /// What it says, where its first line wasn't refused.
-    pub fn end(self) -> Option<EndedBlock> {
+    pub fn end(self) -> Option<EndedBlock>
+        ensures { result ≡ ended_block self }
+    {
         let OpenBlock {
             begins,
             target,
@@ -121,7 +129,10 @@ impl OpenBlock {
 impl EndedBlock {
     /// Takes out what was found to be at fault, and answers whether something is left: of a block with a good target the lines without
     /// fault, and those of which the weights alone are at fault, without these.
-    pub fn mend(&mut self, alloc: Global, found: &[Found]) -> bool {
+    pub fn mend(&mut self, alloc: Global, found: &[Found]) -> bool
+        ensures begins { self.new.begins ≡ self.old.begins }
+        ensures numbers { self.new.numbers ≡ self.old.numbers }
+    {
         match &mut self.statement {
             Statement::Block { target: _, lines } if !is_whole_at_fault(found) => {
                 mend_lines(alloc, lines, found);
@@ -133,7 +144,9 @@ impl EndedBlock {
 }
 
 /// The number of the line at which a fault of a statement stands that begins at a line.
-pub(crate) fn line_of(begins: u32, numbers: &[u32], found: &Found) -> u32 {
+pub(crate) fn line_of(begins: u32, numbers: &[u32], found: &Found) -> u32
+    ensures { result ≡ stated_line begins numbers.now found.now.line }
+{
     match found.line {
         Some(place) => match numbers.get(place) {
             Some(number) => *number,

@@ -2,6 +2,7 @@
 
 use crate::findings::About;
 use crate::foreign_words::foreign_word;
+use coll_advice::Found;
 use coll_lex::{Line, TextBuf, Token};
 use coll_syntax::{Id, SyntaxFault, TableLine, id_of};
 use coll_texts::LoadCause;
@@ -17,6 +18,17 @@ pub(crate) fn about_given(id: Option<Id>) -> About {
     match id {
         Some(id) => about_id(id),
         None => About::Nothing,
+    }
+}
+
+/// What a fault of a statement is about.
+pub(crate) fn about_found(found: &Found) -> Result<About, AllocError> {
+    match &found.id {
+        Some(id) => {
+            let id = id.clone()?;
+            Ok(about_id(id))
+        }
+        None => Ok(About::Nothing),
     }
 }
 

@@ -4,11 +4,17 @@
 //! weights name is looked up behind that, in the table that all lines give (`table_weights`). Where the text doesn't end its order or
 //! its category, or gives no rules, the builder is ended here.
 
-ghost use Rattle.std.specs.Prelude.{◌≡◌, true, IfOk};
+ghost use Rattle.std.specs.Prelude.{◌≡◌, ◌≢◌, ◌∷◌, [], Ok, true, IfErr, IfOk, OnOk};
 ghost use Rattle.coll_lex.specs.Names.{AreTokens};
 ghost use Rattle.coll_nodes.specs.WellFormed.{IsWellFormed};
 ghost use Rattle.coll_syntax.specs.Proper.{IsProperTableLine};
-ghost use Rattle.coll_texts.specs.BuilderStates.{table_of};
+ghost use Rattle.coll_syntax.specs.TableLines.{table_line};
+ghost use Rattle.coll_texts.specs.BuilderStates.{line_fault, table_of};
+ghost use Rattle.coll_texts.specs.declared.load_faults.LoadCause.TheVariants as cause;
+ghost use Rattle.coll_texts.specs.declared.load_faults.LoadCause.TheVariants.{OutOfMemory};
+ghost use Rattle.coll_surveys.specs.ToldFaults.{Tells};
+ghost use Rattle.coll_surveys.specs.TableSurveys.{IsBareOf, IsLeftBy, TellsAgain, TellsLine, TellsOfLine, TellsRefused};
+ghost use Rattle.coll_surveys.specs.TableSurveys.{answered_faults, bare_line, judged_faults, load_fault, load_faults, told_of_table};
 
 use crate::collecting::{Collected, Surveyed};
 use crate::findings::About;
@@ -141,22 +147,55 @@ impl TableSurvey {
     }
 
     // Tells a fault of the table.
-    fn tell_load(&mut self, fault: LoadFault, about: About) -> Result<(), AllocError> {
+    fn tell_load(&mut self, fault: LoadFault, about: About) -> Result<(), AllocError>
+        ensures told { OnOk result (Tells (told_of_table self.old) (told_of_table self.new) (load_fault fault ∷ [])) }
+        ensures builder { self.new.builder ≡ self.old.builder }
+    {
         self.told
             .tell(fault.line, fault.line, Fault::Load(fault), about)
+    }
+
+    // Takes a line, and answers whether it ends the category. What is told of it is what judging it gives, but for its weights.
+    fn take_line(&mut self, line: &Line) -> Result<bool, AllocError>
+        requires { AreTokens line.now.tokens }
+        ensures { OnOk result (TellsOfLine self.old self.new line.now.number line.now.tokens) }
+    {
+        match parse_table_line(self.alloc, line) {
+            Ok(read) => self.put(line, read),
+            Err(SyntaxFault::OutOfMemory) => Err(AllocError),
+            Err(fault) => {
+                self.refuse_line(line, fault)?;
+                Ok(false)
+            }
+        }
+    }
+
+    // Tells a line that the grammar refuses. One that would open an order opens one.
+    fn refuse_line(&mut self, line: &Line, fault: SyntaxFault) -> Result<(), AllocError>
+        ensures { OnOk result (Tells (told_of_table self.old) (told_of_table self.new)
+            (load_fault (record { line = line.now.number; cause = cause.Syntax fault }) ∷ [])) }
+    {
+        let about = refused_subject(self.alloc, line, fault)?;
+        if begins_with_order_start(line) {
+            self.open();
+        }
+        let fault = LoadFault {
+            line: line.number,
+            cause: LoadCause::Syntax(fault),
+        };
+        self.tell_load(fault, about)
     }
 
     // Puts a line that the grammar accepts to the builder, and answers whether it ends the category.
     fn put(&mut self, line: &Line, read: TableLine) -> Result<bool, AllocError>
         requires tokens { AreTokens line.now.tokens }
         requires proper { IsProperTableLine read }
+        requires read { table_line line.now.tokens ≡ Ok read }
+        ensures { OnOk result (TellsLine self.old self.new line.now.number read) }
     {
         let starts = begins_order(&read);
         match self.prepare(line.number, &read) {
-            Ok(name) => {
-                let taken = self.builder.take(line.number, without_weights(read));
-                self.judge_taken(line, starts, name, taken)
-            }
+            Ok(name) => self.put_bare(line, starts, name, without_weights(read)),
             Err(error) => {
                 drop(read);
                 Err(error)
@@ -164,33 +203,22 @@ impl TableSurvey {
         }
     }
 
-    // Prepares to put a line to the builder, and answers the name that it declares.
-    fn prepare(
-        &mut self,
-        number: u32,
-        read: &TableLine,
-    ) -> Result<Option<DeclaredName>, AllocError> {
-        if let TableLine::Script = read {
-            self.told.warn(Warning::ScriptWithoutEffect, number, None)?;
-        }
-        if begins_order(read) || ends_category(read) {
-            self.close_opened();
-        }
-        declared_name(read)
-    }
-
-    // Judges what the builder answered to a line, which may open an order, and may declare a name. The answer is whether the line ends
-    // the category.
-    fn judge_taken(
+    // Puts a line without its weights to the builder, which may open an order, and may declare a name. The answer is whether the line
+    // ends the category.
+    fn put_bare(
         &mut self,
         line: &Line,
         starts: bool,
         name: Option<DeclaredName>,
-        taken: Result<bool, LoadFault>,
+        bare: TableLine,
     ) -> Result<bool, AllocError>
-        requires { AreTokens line.now.tokens }
+        requires tokens { AreTokens line.now.tokens }
+        requires proper { IsProperTableLine bare }
+        requires bare { IsBareOf line.now.tokens bare }
+        ensures { OnOk result (TellsAgain self.old self.new (load_faults (line_fault self.old.builder
+            (record { number = line.now.number; line = bare }))) (record { number = line.now.number; line = bare })) }
     {
-        match taken {
+        match self.builder.take(line.number, bare) {
             Ok(ended) => {
                 self.ruled = self.ruled || starts;
                 self.note(line.number, name)?;
@@ -203,8 +231,24 @@ impl TableSurvey {
         }
     }
 
+    // Prepares to put a line to the builder, and answers the name that it declares.
+    fn prepare(&mut self, number: u32, read: &TableLine) -> Result<Option<DeclaredName>, AllocError>
+        ensures left { IsLeftBy self.old self.new.builder }
+        ensures told { self.new.told.told.faults ≡ self.old.told.told.faults }
+    {
+        if let TableLine::Script = read {
+            self.told.warn(Warning::ScriptWithoutEffect, number, None)?;
+        }
+        if begins_order(read) || ends_category(read) {
+            self.close_opened();
+        }
+        declared_name(read)
+    }
+
     // Notes what a line declares, if it declares a name.
-    fn note(&mut self, number: u32, name: Option<DeclaredName>) -> Result<(), AllocError> {
+    fn note(&mut self, number: u32, name: Option<DeclaredName>) -> Result<(), AllocError>
+        ensures { self.new.told ≡ self.old.told }
+    {
         match name {
             Some(name) => self.declarations.declare(number, name),
             None => Ok(()),
@@ -214,6 +258,7 @@ impl TableSurvey {
     // Tells a line that the builder refuses, and answers whether it ends the category. It is read once more for what it is about.
     fn refuse_read(&mut self, line: &Line, fault: LoadFault) -> Result<bool, AllocError>
         requires { AreTokens line.now.tokens }
+        ensures { OnOk result (TellsRefused self.old self.new fault line.now.number line.now.tokens) }
     {
         if let LoadCause::OutOfMemory = fault.cause {
             return Err(AllocError);
@@ -232,6 +277,7 @@ impl TableSurvey {
         read: TableLine,
     ) -> Result<bool, AllocError>
         requires { IsProperTableLine read }
+        ensures { OnOk result (TellsAgain self.old self.new (load_fault fault ∷ []) (record { number = number; line = bare_line read })) }
     {
         match self.tell_refused(fault, &read) {
             Ok(()) if is_for_an_order(&read) => self.take_opened(number, fault.cause, read),
@@ -245,7 +291,9 @@ impl TableSurvey {
     }
 
     // Tells a line that the builder refuses.
-    fn tell_refused(&mut self, fault: LoadFault, read: &TableLine) -> Result<(), AllocError> {
+    fn tell_refused(&mut self, fault: LoadFault, read: &TableLine) -> Result<(), AllocError>
+        ensures { OnOk result (Tells (told_of_table self.old) (told_of_table self.new) (load_fault fault ∷ [])) }
+    {
         let about = table_subject(read, fault.cause)?;
         self.tell_load(fault, about)
     }
@@ -259,6 +307,7 @@ impl TableSurvey {
         read: TableLine,
     ) -> Result<bool, AllocError>
         requires { IsProperTableLine read }
+        ensures { OnOk result (TellsAgain self.old self.new [] (record { number = number; line = bare_line read })) }
     {
         self.open();
         if let LoadCause::OutsideOrder = cause {
@@ -272,6 +321,7 @@ impl TableSurvey {
     // Puts a line that stood outside of an order to the one that was opened for it.
     fn take_outside(&mut self, number: u32, read: TableLine) -> Result<bool, AllocError>
         requires { IsProperTableLine read }
+        ensures { OnOk result (Tells (told_of_table self.old) (told_of_table self.new) (judged_faults self.old.builder number read)) }
     {
         match table_subject(&read, LoadCause::NotDeclared) {
             Ok(about) => {
@@ -290,7 +340,10 @@ impl TableSurvey {
         &mut self,
         about: About,
         taken: Result<bool, LoadFault>,
-    ) -> Result<bool, AllocError> {
+    ) -> Result<bool, AllocError>
+        ensures told { OnOk result (Tells (told_of_table self.old) (told_of_table self.new) (answered_faults taken)) }
+        ensures memory { OnOk result (IfErr taken (λ fault. fault.cause ≢ OutOfMemory)) }
+    {
         match taken {
             Ok(ended) => {
                 drop(about);
@@ -314,7 +367,10 @@ impl TableSurvey {
 
     // Closes an order that was opened for a line outside of one, so that it isn't told once more where the next one opens, or the
     // category ends.
-    fn close_opened(&mut self) {
+    fn close_opened(&mut self)
+        ensures left { IsLeftBy self.old self.new.builder }
+        ensures told { self.new.told ≡ self.old.told }
+    {
         if self.opened {
             self.opened = false;
             let _ = self.builder.take(0, TableLine::OrderEnd);
@@ -322,7 +378,9 @@ impl TableSurvey {
     }
 
     // Opens an order, with the rules that stand, if there are any.
-    fn open(&mut self) {
+    fn open(&mut self)
+        ensures { self.new.told ≡ self.old.told }
+    {
         let _ = self.builder.take(
             0,
             TableLine::OrderStart {
@@ -335,22 +393,7 @@ impl TableSurvey {
 
 impl TakesLines for TableSurvey {
     fn take(&mut self, line: &Line, _opening: Opening) -> Result<bool, AllocError> {
-        match parse_table_line(self.alloc, line) {
-            Ok(read) => self.put(line, read),
-            Err(SyntaxFault::OutOfMemory) => Err(AllocError),
-            Err(fault) => {
-                let about = refused_subject(self.alloc, line, fault)?;
-                if begins_with_order_start(line) {
-                    self.open();
-                }
-                let fault = LoadFault {
-                    line: line.number,
-                    cause: LoadCause::Syntax(fault),
-                };
-                self.tell_load(fault, about)?;
-                Ok(false)
-            }
-        }
+        self.take_line(line)
     }
 
     fn refuse(
@@ -411,7 +454,8 @@ fn ends_category(line: &TableLine) -> bool {
 // A line without the weights that it gives.
 fn without_weights(line: TableLine) -> TableLine
     requires { IsProperTableLine line }
-    ensures { IsProperTableLine result }
+    ensures proper { IsProperTableLine result }
+    ensures bare { result ≡ bare_line line }
 {
     match line {
         TableLine::Order(OrderLine { id, weights }) => {

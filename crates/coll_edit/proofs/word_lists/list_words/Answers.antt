@@ -1,7 +1,6 @@
 -- The words are read, and put in order.
-use Rattle.std.proofs.Common.{ap, inr, subst, sym, ◌∙◌}
+use Rattle.std.proofs.Common.{inr, subst}
 use Rattle.std.specs.Prelude.{IfOk}
-use Rattle.coll_nodes.specs.Table.{Collation}
 use Rattle.coll_history.specs.Histories.{History, table_now}
 use Rattle.coll_bench.specs.Serving.{history_of}
 use Rattle.coll_edit.specs.ToldLists.{ListsAnew}

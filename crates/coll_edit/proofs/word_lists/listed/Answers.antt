@@ -1,7 +1,5 @@
 -- Each text in turn is put.
-use Rattle.std.proofs.Common.{ℕ, List, ap, sym, subst, ◌∙◌}
-use Rattle.std.proofs.lemmas.Iterator.Adapters.{YieldsList-from_vec}
-use Rattle.std.proofs.lemmas.Iterator.Consumers.{YieldsList-end}
+use Rattle.std.proofs.Common.{ℕ, List, subst}
 use Rattle.coll_nodes.specs.TableLayout.{collation}
 use Rattle.coll_edit.specs.ToldLists.{PutsWord}
 use Rattle.coll_edit.proofs.ToldLemmas.{numbered_more}
