@@ -15,7 +15,7 @@ use coll_table::Table;
 use std::alloc::{AllocError, Global};
 
 /// An identifier by its own name.
-pub(crate) fn copied_own_id(alloc: Global, table: &Table, id: &Id) -> Result<Id, AllocError>
+pub fn copied_own_id(alloc: Global, table: &Table, id: &Id) -> Result<Id, AllocError>
     ensures { IfOk result (λ own. own ≡ own_id (collation table.now).declared id.now) }
 {
     match id {
@@ -61,7 +61,7 @@ fn is_own_name(table: &Table, name: &TextBuf) -> bool
 }
 
 /// Whether an identifier stands in a table.
-pub(crate) fn is_placed(table: &Table, id: &Id) -> bool
+pub fn is_placed(table: &Table, id: &Id) -> bool
     ensures { result ≡ is_placed (collation table.now) id.now }
 {
     table.entry(id).is_some()

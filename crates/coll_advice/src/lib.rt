@@ -26,6 +26,7 @@ mod texts;
 
 pub use advice_lines::write_advice;
 pub use found::Found;
+pub use identifiers::{copied_own_id, is_placed};
 pub use near_names::nearest_name;
 pub use sentences::{Advice, advice_of};
 pub use statements::{faults_of, subject_of};

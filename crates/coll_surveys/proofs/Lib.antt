@@ -1,1 +1,2 @@
 pub mod TellingLemmas
+pub mod WeightLemmas

@@ -1,6 +1,8 @@
 -- What is told behind the faults that were told.
 use Rattle.std.proofs.Common.{◌≡◌, ◌≤◌, ◌<◌, ℕ, ◌+◌, List, [], ◌∷◌, ◌++◌, get_or, length, map, take, Option, Some, Result, Ok, Err, refl, sym, ap, ◌∙◌, subst, append_assoc, append-nil, inl, inr}
+use Rattle.std.specs.List.{flat_map}
 use Rattle.std.specs.Prelude.{OnOk}
+use Rattle.std.proofs.lemmas.Grind.{flat_map-append}
 use Rattle.std.proofs.lemmas.List.{map-append, take_all, take_more}
 use Rattle.coll_syntax.specs.declared.statements.Statement.{Statement}
 use Rattle.coll_nodes.specs.Table.{Collation}
@@ -108,3 +110,15 @@ pub told_again : {T E : Type 0} (old mid new : TableSurvey) (f : LoadFault) (bar
 told_again old mid new f bare (Ok x) first (opened, more) =
     (opened, told_on (told_of_table old) (told_of_table mid) (told_of_table new) (load_fault f ∷ []) (load_faults (line_fault opened bare)) first more)
 told_again old mid new f bare (Err e) first again = tt
+
+-- what one more of a list has is told behind what those before it have
+pub each_told : {T : Type 0} (a b c : List FoundFault) (f : T → List LineFault) (xs : List T) (i : ℕ) (x : T) → i < length xs → x ≡ get_or xs i x → Tells a b (flat_map f (take i xs))
+    → Tells b c (f x) → Tells a c (flat_map f (take (i + 1) xs))
+each_told {T} a b c f xs i x within is first one =
+    subst (Tells a c)
+    (sym (ap (flat_map f) (take_more xs i x within ∙ ap (λ (y : T). take i xs ++ y ∷ []) (sym is)) ∙ flat_map-append f (take i xs) (x ∷ []) ∙ ap (λ (l : List LineFault). flat_map f (take i xs) ++ l) (append-nil (f x))))
+    (told_on a b c (flat_map f (take i xs)) (f x) first one)
+
+-- what all of a list have is told
+pub all_told : {T : Type 0} (a b : List FoundFault) (f : T → List LineFault) (xs : List T) (i : ℕ) → length xs ≤ i → Tells a b (flat_map f (take i xs)) → Tells a b (flat_map f xs)
+all_told {T} a b f xs i past tells = subst (λ (l : List T). Tells a b (flat_map f l)) (take_all i xs past) tells

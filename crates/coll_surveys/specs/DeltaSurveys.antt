@@ -5,6 +5,7 @@ use Rattle.std.specs.Prelude.{Result, Ok, Err}
 use Rattle.coll_lex.specs.declared.tokens.Token.{Token}
 use Rattle.coll_syntax.specs.DeltaLines.{delta_line}
 use Rattle.coll_requests.specs.Limits.{most_block_lines}
+use Rattle.coll_requests.specs.declared.delta_faults.DeltaFault.{DeltaFault}
 use Rattle.coll_syntax.specs.Proper.{is_proper}
 use Rattle.coll_syntax.specs.declared.identifiers.Id.{Id}
 use Rattle.coll_syntax.specs.declared.lines.DeltaLine.{DeltaLine}
@@ -20,6 +21,7 @@ use Rattle.coll_table.specs.Delta.{delta}
 use Rattle.coll_table.specs.declared.refusals.Refusal.{Refusal}
 use Rattle.coll_advice.specs.Faults.{faults}
 use Rattle.coll_advice.specs.declared.found.Found.{Found}
+use Rattle.coll_bench.specs.Faults.{delta_fault_of}
 use Rattle.coll_bench.specs.declared.faults.Fault.TheVariants as fault
 use Rattle.coll_surveys.specs.ToldFaults.{LineFault, at_line}
 use Rattle.coll_surveys.specs.declared.delta_surveys.DeltaSurvey.{DeltaSurvey}
@@ -144,3 +146,9 @@ read_faults table block number begins (Err f) = at_line number (fault.Syntax f) 
 -- a line of these tokens, which begins so
 abbrev pub faults_of_line : Collation → Option OpenBlock → ℕ → Opening → List Token → List LineFault
 faults_of_line table block number begins tokens = read_faults table block number begins (delta_line tokens)
+
+-- The end of a text.
+
+-- how a text ends of which the category doesn't, behind what is wrong with the block that is open
+abbrev pub early_faults : Collation → Option OpenBlock → DeltaFault → List LineFault
+early_faults table block end = block_faults table block ++ at_line end.line (delta_fault_of end.line end.cause) ∷ []

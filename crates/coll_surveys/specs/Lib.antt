@@ -1,4 +1,5 @@
 pub mod DeltaSurveys
 pub mod GatheredWarnings
 pub mod TableSurveys
+pub mod TableWeights
 pub mod ToldFaults

@@ -1,5 +1,5 @@
--- What is wrong with a line of a table that is surveyed, but for its weights: what judging it gives, as the lines before it left the table
--- that is built (the project's own).
+-- What is wrong with a line of a table that is surveyed, but for its weights (`TableWeights`): what judging it gives, as the lines before
+-- it left the table that is built (the project's own).
 use Rattle.std.specs.Prelude.{◌≡◌, ◌≢◌, ◌⊎◌, ℕ, Bool, true, List, [], ◌∷◌, ◌++◌, Option, Some, None, Result, Ok, Err}
 use Rattle.coll_lex.specs.declared.tokens.Token.{Token}
 use Rattle.coll_syntax.specs.TableLines.{table_line}

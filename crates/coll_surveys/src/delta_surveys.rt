@@ -6,9 +6,11 @@
 
 ghost use Rattle.std.specs.Prelude.{◌≡◌, ◌∷◌, [], map, OnOk};
 ghost use Rattle.coll_lex.specs.Names.{AreTokens};
+ghost use Rattle.coll_requests.specs.DeltaFaults.{early_fault};
+ghost use Rattle.coll_bench.specs.Faults.{delta_fault_of};
 ghost use Rattle.coll_bench.specs.declared.faults.Fault.TheVariants as refused;
 ghost use Rattle.coll_surveys.specs.ToldFaults.{Tells, at_line};
-ghost use Rattle.coll_surveys.specs.DeltaSurveys.{alone_faults, block_faults, category_faults, end_faults, ended_faults, faults_of_line};
+ghost use Rattle.coll_surveys.specs.DeltaSurveys.{alone_faults, block_faults, category_faults, early_faults, end_faults, ended_faults, faults_of_line};
 ghost use Rattle.coll_surveys.specs.DeltaSurveys.{block_left, faults_told, found_fault, line_faults, open_faults, order_faults};
 ghost use Rattle.coll_surveys.specs.DeltaSurveys.{passed_faults, refused_faults, statement_faults, table_left};
 
@@ -22,7 +24,7 @@ use crate::unplaced::{Declarations, DeclaredName};
 use crate::warnings::Warning;
 use coll_advice::{Found, faults_of};
 use coll_bench::Fault;
-use coll_lex::{LexFault, Line, TextBuf};
+use coll_lex::{EarlyEnd, LexFault, Line, TextBuf};
 use coll_lookups::HashKeys;
 use coll_requests::DeltaFault;
 use coll_syntax::{DeltaLine, Id, OrderLine, Statement, SyntaxFault, parse_delta_line};
@@ -63,12 +65,27 @@ impl DeltaSurvey {
     fn take_all(&mut self, text: &[u8]) -> Result<(), AllocError> {
         let alloc = self.alloc;
         if let Some(end) = survey_lines(alloc, text, self)? {
-            self.end_block()?;
-            let fault = DeltaFault::from(end);
-            self.tell(fault.line, Fault::from(fault), About::Nothing)?;
+            self.tell_end(end)?;
         }
         self.declarations
             .warn_of_unplaced(&self.table, &mut self.told)
+    }
+
+    // Judges the block that is open, if one is, and tells how a text ends of which the category doesn't.
+    fn tell_end(&mut self, end: EarlyEnd) -> Result<(), AllocError>
+        ensures { OnOk result (Tells (faults_told self.old) (faults_told self.new)
+            (early_faults (table_left self.old) (block_left self.old) (early_fault end))) }
+    {
+        self.end_block()?;
+        self.tell_fault(DeltaFault::from(end))
+    }
+
+    // Tells a fault of the text.
+    fn tell_fault(&mut self, fault: DeltaFault) -> Result<(), AllocError>
+        ensures { OnOk result (Tells (faults_told self.old) (faults_told self.new)
+            (at_line fault.line (delta_fault_of fault.line fault.cause) ∷ [])) }
+    {
+        self.tell(fault.line, Fault::from(fault), About::Nothing)
     }
 
     // What a survey gives.
@@ -155,6 +172,20 @@ impl DeltaSurvey {
         let about = refused_subject(self.alloc, line, fault)?;
         self.tell(line.number, Fault::Syntax(fault), about)?;
         self.pass_over(line.number, opening)
+    }
+
+    // Tells a line that the lexer refuses, and passes it over.
+    fn refuse_lexed(
+        &mut self,
+        number: u32,
+        opening: Opening,
+        fault: LexFault,
+    ) -> Result<(), AllocError>
+        ensures { OnOk result (Tells (faults_told self.old) (faults_told self.new)
+            (at_line number (refused.Lex fault) ∷ passed_faults (table_left self.old) (block_left self.old) opening)) }
+    {
+        self.tell(number, Fault::Lex(fault), About::Nothing)?;
+        self.pass_over(number, opening)
     }
 
     // Takes a line that the grammar accepts.
@@ -500,8 +531,7 @@ impl TakesLines for DeltaSurvey {
     }
 
     fn refuse(&mut self, number: u32, opening: Opening, fault: LexFault) -> Result<(), AllocError> {
-        self.tell(number, Fault::Lex(fault), About::Nothing)?;
-        self.pass_over(number, opening)
+        self.refuse_lexed(number, opening, fault)
     }
 }
 

@@ -10,6 +10,7 @@ ghost use Rattle.coll_nodes.specs.WellFormed.{IsWellFormed};
 ghost use Rattle.coll_syntax.specs.Proper.{IsProperTableLine};
 ghost use Rattle.coll_syntax.specs.TableLines.{table_line};
 ghost use Rattle.coll_texts.specs.BuilderStates.{line_fault, table_of};
+ghost use Rattle.coll_texts.specs.LoadFaults.{early_fault, lex_cause};
 ghost use Rattle.coll_texts.specs.declared.load_faults.LoadCause.TheVariants as cause;
 ghost use Rattle.coll_texts.specs.declared.load_faults.LoadCause.TheVariants.{OutOfMemory};
 ghost use Rattle.coll_surveys.specs.ToldFaults.{Tells};
@@ -24,7 +25,7 @@ use crate::table_weights::survey_weights;
 use crate::unplaced::{Declarations, DeclaredName};
 use crate::warnings::Warning;
 use coll_bench::Fault;
-use coll_lex::{LexFault, Line};
+use coll_lex::{EarlyEnd, LexFault, Line};
 use coll_lookups::HashKeys;
 use coll_syntax::{OrderLine, SyntaxFault, TableLine, is_word, parse_table_line};
 use coll_table::Table;
@@ -120,9 +121,16 @@ impl TableSurvey {
     fn take_all(&mut self, text: &[u8]) -> Result<(), AllocError> {
         let alloc = self.alloc;
         match survey_lines(alloc, text, self)? {
-            Some(end) => self.tell_load(LoadFault::from(end), About::Nothing),
+            Some(end) => self.tell_end(end),
             None => Ok(()),
         }
+    }
+
+    // Tells how a text ends of which the category doesn't.
+    fn tell_end(&mut self, end: EarlyEnd) -> Result<(), AllocError>
+        ensures { OnOk result (Tells (told_of_table self.old) (told_of_table self.new) (load_fault (early_fault end) ∷ [])) }
+    {
+        self.tell_load(LoadFault::from(end), About::Nothing)
     }
 
     // The builder, and what was read beside it.
@@ -184,6 +192,18 @@ impl TableSurvey {
             cause: LoadCause::Syntax(fault),
         };
         self.tell_load(fault, about)
+    }
+
+    // Tells a line that the lexer refuses.
+    fn refuse_lexed(&mut self, number: u32, fault: LexFault) -> Result<(), AllocError>
+        ensures { OnOk result (Tells (told_of_table self.old) (told_of_table self.new)
+            (load_fault (record { line = number; cause = lex_cause fault }) ∷ [])) }
+    {
+        let fault = LoadFault {
+            line: number,
+            cause: LoadCause::from(fault),
+        };
+        self.tell_load(fault, About::Nothing)
     }
 
     // Puts a line that the grammar accepts to the builder, and answers whether it ends the category.
@@ -402,11 +422,7 @@ impl TakesLines for TableSurvey {
         _opening: Opening,
         fault: LexFault,
     ) -> Result<(), AllocError> {
-        let fault = LoadFault {
-            line: number,
-            cause: LoadCause::from(fault),
-        };
-        self.tell_load(fault, About::Nothing)
+        self.refuse_lexed(number, fault)
     }
 }
 

@@ -3,11 +3,19 @@
 //! These are the faults that a line may have beside its own: it gives weights to a collating symbol, or more than there are levels, or a
 //! weight names what isn't declared or has no entry.
 
+ghost use Rattle.std.specs.Prelude.{◌≡◌, chars, IfOk, OnOk, Some};
+ghost use Rattle.coll_syntax.specs.declared.identifiers.Id.TheVariants.{Named};
+ghost use Rattle.coll_nodes.specs.Entries.{weight_ids};
+ghost use Rattle.coll_nodes.specs.TableLayout.{collation};
+ghost use Rattle.coll_surveys.specs.ToldFaults.{Tells};
+ghost use Rattle.coll_surveys.specs.TableWeights.{cause_faults, given_cause, ids_faults, named_cause, weight_faults, weights_faults};
+
 use crate::collecting::Collected;
 use crate::line_surveys::{Opening, TakesLines, survey_lines};
 use crate::subjects::about_id;
+use coll_advice::{copied_own_id, is_placed};
 use coll_bench::Fault;
-use coll_lex::{LexFault, Line, TextBuf};
+use coll_lex::{LexFault, Line};
 use coll_syntax::{Id, OrderLine, SyntaxFault, TableLine, Weight, parse_table_line};
 use coll_table::Table;
 use coll_texts::{LoadCause, LoadFault};
@@ -70,93 +78,142 @@ impl WeightSurvey<'_, '_> {
     fn take_read(&mut self, number: u32, read: &TableLine) -> Result<bool, AllocError> {
         match read {
             TableLine::Order(order) => {
-                self.judge(number, order)?;
+                judge_order(self.alloc, self.table, self.ruled, number, order, self.told)?;
                 Ok(false)
             }
             TableLine::EndCategory => Ok(true),
             _ => Ok(false),
         }
     }
+}
 
-    // Judges the weights of an order line, if it gives any.
-    fn judge(&mut self, number: u32, order: &OrderLine) -> Result<(), AllocError> {
-        let Some(weights) = &order.weights else {
-            return Ok(());
-        };
-        if is_symbol(self.table, &order.id) {
-            return self.tell(number, LoadCause::SymbolWithWeights, &order.id);
-        }
-        if self.ruled && weights.get().len() > self.table.rules().len() {
-            return self.tell(number, LoadCause::TooManyWeights, &order.id);
-        }
-        self.judge_weights(number, weights.get())
-    }
-
-    // Judges what each of these weights names.
-    fn judge_weights(&mut self, number: u32, weights: &[Weight]) -> Result<(), AllocError> {
-        for weight in weights {
-            if let Weight::Names(ids) = weight {
-                self.judge_ids(number, ids.get())?;
-            }
-        }
-        Ok(())
-    }
-
-    // Judges each of these identifiers of a weight.
-    fn judge_ids(&mut self, number: u32, ids: &[Id]) -> Result<(), AllocError> {
-        for id in ids {
-            if let Some(cause) = id_cause(self.alloc, self.table, id)? {
-                self.tell(number, cause, id)?;
-            }
-        }
-        Ok(())
-    }
-
-    // Tells a fault of an order line.
-    fn tell(&mut self, line: u32, cause: LoadCause, id: &Id) -> Result<(), AllocError> {
-        let fault = Fault::Load(LoadFault { line, cause });
-        let id = id.clone()?;
-        self.told.tell(line, line, fault, about_id(id))
+// Judges the weights of an order line, if it gives any.
+fn judge_order(
+    alloc: Global,
+    table: &Table,
+    ruled: bool,
+    number: u32,
+    order: &OrderLine,
+    told: &mut Collected,
+) -> Result<(), AllocError>
+    ensures { OnOk result (Tells told.old.told.faults.items told.new.told.faults.items
+        (weight_faults (collation table.now) ruled number order.now)) }
+{
+    let Some(weights) = &order.weights else {
+        return Ok(());
+    };
+    match line_cause(alloc, table, ruled, &order.id, weights.get())? {
+        Some(cause) => tell(number, cause, &order.id, told),
+        None => judge_weights(table, number, weights.get(), told),
     }
 }
 
-// Whether an identifier is a collating symbol, also by a second name.
-fn is_symbol(table: &Table, id: &Id) -> bool {
-    match id {
-        Id::Named(name) => is_symbol_name(table, id, name),
-        _ => false,
+// Why an identifier may not have these weights, whatever they name, if it may not.
+fn line_cause(
+    alloc: Global,
+    table: &Table,
+    ruled: bool,
+    id: &Id,
+    weights: &[Weight],
+) -> Result<Option<LoadCause>, AllocError>
+    ensures { IfOk result (λ cause. cause ≡ given_cause (collation table.now) ruled id.now weights.now) }
+{
+    let own = copied_own_id(alloc, table, id)?;
+    let is_symbol = table.is_symbol(&own);
+    drop(own);
+    if is_symbol {
+        return Ok(Some(LoadCause::SymbolWithWeights));
+    }
+    if ruled && weights.len() > table.rules().len() {
+        return Ok(Some(LoadCause::TooManyWeights));
+    }
+    Ok(None)
+}
+
+// Judges what each of these weights names.
+fn judge_weights(
+    table: &Table,
+    number: u32,
+    weights: &[Weight],
+    told: &mut Collected,
+) -> Result<(), AllocError>
+    ensures { OnOk result (Tells told.old.told.faults.items told.new.told.faults.items
+        (weights_faults (collation table.now) number weights.now)) }
+{
+    for weight in weights {
+        judge_weight(table, number, weight, told)?;
+    }
+    Ok(())
+}
+
+// Judges what a weight names.
+fn judge_weight(
+    table: &Table,
+    number: u32,
+    weight: &Weight,
+    told: &mut Collected,
+) -> Result<(), AllocError>
+    ensures { OnOk result (Tells told.old.told.faults.items told.new.told.faults.items
+        (ids_faults (collation table.now) number (weight_ids weight.now))) }
+{
+    match weight {
+        Weight::Names(ids) => judge_ids(table, number, ids.get(), told),
+        Weight::Ignore | Weight::Own => Ok(()),
     }
 }
 
-// Whether a name is that of a collating symbol. Each second name is one of a symbol.
-fn is_symbol_name(table: &Table, id: &Id, name: &TextBuf) -> bool {
-    if table.is_symbol(id) {
-        return true;
+// Judges each of these identifiers of a weight.
+fn judge_ids(table: &Table, number: u32, ids: &[Id], told: &mut Collected) -> Result<(), AllocError>
+    ensures { OnOk result (Tells told.old.told.faults.items told.new.told.faults.items
+        (ids_faults (collation table.now) number ids.now)) }
+{
+    for id in ids {
+        judge_id(table, number, id, told)?;
     }
-    match table.resolve(name.get()) {
-        Some(own) => own != name.get(),
-        None => false,
+    Ok(())
+}
+
+// Judges an identifier of a weight.
+fn judge_id(table: &Table, number: u32, id: &Id, told: &mut Collected) -> Result<(), AllocError>
+    ensures { OnOk result (Tells told.old.told.faults.items told.new.told.faults.items
+        (cause_faults number (named_cause (collation table.now) id.now))) }
+{
+    match id_cause(table, id) {
+        Some(cause) => tell(number, cause, id, told),
+        None => Ok(()),
     }
 }
 
 // Why an identifier may not stand in a weight, if it may not.
-fn id_cause(alloc: Global, table: &Table, id: &Id) -> Result<Option<LoadCause>, AllocError> {
-    let Id::Named(name) = id else {
-        return Ok(unplaced_cause(table, id));
-    };
-    match table.resolve(name.get()) {
-        Some(own) => {
-            let own = TextBuf::copied(alloc, own)?;
-            Ok(unplaced_cause(table, &Id::Named(own)))
-        }
-        None => Ok(Some(LoadCause::NotDeclared)),
+fn id_cause(table: &Table, id: &Id) -> Option<LoadCause>
+    ensures { result ≡ named_cause (collation table.now) id.now }
+{
+    match id {
+        Id::Named(name) => name_cause(table, name.get()),
+        _ if is_placed(table, id) => None,
+        _ => Some(LoadCause::WeightNotPlaced),
     }
 }
 
-// Why an identifier that is declared may not stand in a weight: it has no entry.
-fn unplaced_cause(table: &Table, id: &Id) -> Option<LoadCause> {
-    match table.entry(id) {
-        Some(_) => None,
-        None => Some(LoadCause::WeightNotPlaced),
+// Why a name may not, if it may not.
+fn name_cause(table: &Table, name: &str) -> Option<LoadCause>
+    ensures { result ≡ named_cause (collation table.now) (Named (chars name.now)) }
+{
+    table.lemma_well_formed();
+    if table.entry_of_name(name).is_some() {
+        return None;
     }
+    if table.resolve(name).is_some() {
+        return Some(LoadCause::WeightNotPlaced);
+    }
+    Some(LoadCause::NotDeclared)
+}
+
+// Tells a fault of an order line, which is about this identifier.
+fn tell(line: u32, cause: LoadCause, id: &Id, told: &mut Collected) -> Result<(), AllocError>
+    ensures { OnOk result (Tells told.old.told.faults.items told.new.told.faults.items (cause_faults line (Some cause))) }
+{
+    let fault = Fault::Load(LoadFault { line, cause });
+    let id = id.clone()?;
+    told.tell(line, line, fault, about_id(id))
 }

@@ -1,0 +1,10 @@
+-- The line is told, and then what it ends.
+use Rattle.coll_bench.specs.declared.faults.Fault.TheVariants as fault
+use Rattle.coll_surveys.specs.ToldFaults.{at_line}
+use Rattle.coll_surveys.proofs.TellingLemmas.{passed_told}
+use Rattle.coll_surveys.proofs.delta_surveys.DeltaSurvey.refuse_lexed.Goals as goal
+
+pub returns : goal.returns
+returns c =
+    passed_told c.args.self.now c.tell.new.self c.pass_over.new.self (at_line c.args.number (fault.Lex c.args.fault)) c.args.opening c.pass_over.result c.in_ok-tell.ensures.told
+    c.in_ok-tell.ensures.table c.in_ok-tell.ensures.block c.pass_over.ensures

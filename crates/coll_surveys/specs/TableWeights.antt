@@ -1,0 +1,53 @@
+-- What is wrong with the weights of an order line of a table that is surveyed, in the table that all its lines give (the project's own).
+use Rattle.std.specs.Prelude.{ℕ, Bool, nat_lt, ◌&&◌, List, [], ◌∷◌, length, Option, Some, None}
+use Rattle.std.specs.List.{flat_map}
+use Rattle.coll_syntax.specs.declared.identifiers.Id.{Id}
+use Rattle.coll_syntax.specs.declared.statements.OrderLine.{OrderLine}
+use Rattle.coll_syntax.specs.declared.weights.Weight.{Weight}
+use Rattle.coll_nodes.specs.Causes.{refused_if}
+use Rattle.coll_nodes.specs.Entries.{weight_ids}
+use Rattle.coll_nodes.specs.OwnNames.{own_id}
+use Rattle.coll_nodes.specs.Table.{Collation, is_symbol}
+use Rattle.coll_texts.specs.BuilderStates.{weight_cause}
+use Rattle.coll_texts.specs.declared.load_faults.LoadCause.{LoadCause}
+use Rattle.coll_texts.specs.declared.load_faults.LoadCause.TheVariants.{SymbolWithWeights, TooManyWeights}
+use Rattle.coll_surveys.specs.TableSurveys.{load_fault}
+use Rattle.coll_surveys.specs.ToldFaults.{LineFault}
+
+-- a fault of the line of this number, if there is a cause for one
+abbrev pub cause_faults : (number : ℕ) → Option LoadCause → List LineFault
+cause_faults number None = []
+cause_faults number (Some cause) = load_fault (record { line = number; cause = cause }) ∷ []
+
+-- why an identifier may not stand in a weight: by its own name it isn't declared, or has no entry
+abbrev pub named_cause : Collation → Id → Option LoadCause
+named_cause table id = weight_cause table.declared table.sections (own_id table.declared id)
+
+-- the faults of what a weight names
+abbrev pub ids_faults : Collation → (number : ℕ) → List Id → List LineFault
+ids_faults table number ids = flat_map (λ id. cause_faults number (named_cause table id)) ids
+
+-- the faults of what weights name
+abbrev pub weights_faults : Collation → (number : ℕ) → List Weight → List LineFault
+weights_faults table number weights = flat_map (λ weight. ids_faults table number (weight_ids weight)) weights
+
+-- why an identifier may not have weights, whatever they name: by its own name it is a collating symbol, or they are more than there are
+-- levels, where the rules are known
+abbrev pub given_cause : Collation → (ruled : Bool) → Id → List Weight → Option LoadCause
+given_cause table ruled id weights =
+    refused_if (is_symbol table.declared (own_id table.declared id)) SymbolWithWeights
+    (refused_if (ruled && nat_lt (length table.rules) (length weights)) TooManyWeights None)
+
+-- the faults of weights, which are refused as they are for this cause, if there is one
+abbrev pub refused_faults : Collation → (number : ℕ) → List Weight → Option LoadCause → List LineFault
+refused_faults table number weights None = weights_faults table number weights
+refused_faults table number weights (Some cause) = cause_faults number (Some cause)
+
+-- the faults of the weights that are given to an identifier, if any are
+abbrev pub given_faults : Collation → (ruled : Bool) → (number : ℕ) → Id → Option (List Weight) → List LineFault
+given_faults table ruled number id None = []
+given_faults table ruled number id (Some weights) = refused_faults table number weights (given_cause table ruled id weights)
+
+-- the faults of the weights of an order line
+abbrev pub weight_faults : Collation → (ruled : Bool) → (number : ℕ) → OrderLine → List LineFault
+weight_faults table ruled number order = given_faults table ruled number order.id order.weights
