@@ -299,16 +299,22 @@ impl KeptRanks {
             return Ok(());
         }
         match self.short_look(session.table(), characters, others) {
-            Some(looked) => {
-                self.looked = looked;
-                self.give_places(session, looked)?;
-                Ok(())
-            }
-            None => {
-                make_ranks(alloc, session.table(), &mut self.ranks)?;
-                Ok(())
-            }
+            Some(looked) => self.prepare_short(session, looked),
+            None => make_ranks(alloc, session.table(), &mut self.ranks),
         }
+    }
+
+    // Makes the places ready for a short look, with which so many characters were looked up by themselves.
+    fn prepare_short(&mut self, session: &mut Session, looked: usize) -> Result<(), AllocError>
+        requires { IsKeptFor self.old (table_now session.old.history) session.old.layout }
+        ensures kept { IsKeptFor self.new (table_now session.new.history) session.new.layout }
+        ensures session { session.new ≡ session.old }
+        ensures ranks { self.new.ranks ≡ self.old.ranks }
+        ensures looked { self.new.looked ≡ looked }
+        ensures serves { OnOk result (CanServe self.new.ranks self.new.places) }
+    {
+        self.looked = looked;
+        self.give_places(session, looked)
     }
 
     // How many characters were looked up by themselves with those of a further look for two texts, if it is to be a short one.

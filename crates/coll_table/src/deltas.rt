@@ -103,24 +103,48 @@ impl Table {
         ensures unchanged { OnErr result (self.new ≡ self.old) }
     {
         match statement {
-            Statement::Symbol(name) => {
-                let name = name.try_copy()?;
-                self.declare(Declaration::Symbol(name))
-            }
-            Statement::Element { name, text } => {
-                let name = name.try_copy()?;
-                let text = text.try_copy()?;
-                self.declare(Declaration::Element { name, text })
-            }
-            Statement::Equivalence { name, symbol } => {
-                let name = name.try_copy()?;
-                let symbol = symbol.try_copy()?;
-                self.declare(Declaration::Equivalence { name, symbol })
-            }
+            Statement::Symbol(name) => self.declare_symbol(name),
+            Statement::Element { name, text } => self.declare_element(name, text),
+            Statement::Equivalence { name, symbol } => self.declare_second(name, symbol),
             Statement::Block { target, lines } => self.apply_block(target, lines.get()),
             Statement::SectionAfter { moved, after } => self.move_section(moved, after),
             Statement::Reweight(line) => self.reweight(line),
         }
+    }
+
+    // Declares a symbol.
+    fn declare_symbol(&mut self, name: &TextBuf) -> Result<Record, AllocError>
+        requires proper { IsProper (statement.Symbol name.now) }
+        requires accepted { IsOk (own_delta (collation self.old) (statement.Symbol name.now)) }
+        ensures applied { IfOk result (λ kept. Applied self.old self.new (statement.Symbol name.now) kept) }
+        ensures unchanged { OnErr result (self.new ≡ self.old) }
+    {
+        let name = name.try_copy()?;
+        self.declare(Declaration::Symbol(name))
+    }
+
+    // Declares an element.
+    fn declare_element(&mut self, name: &TextBuf, text: &TextBuf) -> Result<Record, AllocError>
+        requires proper { IsProper (statement.Element name.now text.now) }
+        requires accepted { IsOk (own_delta (collation self.old) (statement.Element name.now text.now)) }
+        ensures applied { IfOk result (λ kept. Applied self.old self.new (statement.Element name.now text.now) kept) }
+        ensures unchanged { OnErr result (self.new ≡ self.old) }
+    {
+        let name = name.try_copy()?;
+        let text = text.try_copy()?;
+        self.declare(Declaration::Element { name, text })
+    }
+
+    // Declares a second name of a symbol.
+    fn declare_second(&mut self, name: &TextBuf, symbol: &TextBuf) -> Result<Record, AllocError>
+        requires proper { IsProper (statement.Equivalence name.now symbol.now) }
+        requires accepted { IsOk (own_delta (collation self.old) (statement.Equivalence name.now symbol.now)) }
+        ensures applied { IfOk result (λ kept. Applied self.old self.new (statement.Equivalence name.now symbol.now) kept) }
+        ensures unchanged { OnErr result (self.new ≡ self.old) }
+    {
+        let name = name.try_copy()?;
+        let symbol = symbol.try_copy()?;
+        self.declare(Declaration::Equivalence { name, symbol })
     }
 
     // Puts a declaration behind all others.
