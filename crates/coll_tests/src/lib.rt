@@ -2,14 +2,13 @@
 //!
 //! A module shows each crate: `lines` is of `coll_devices` and `coll_lex`, `ordered_rings` of `coll_order`, `grammar` of
 //! `coll_syntax`, `tables` of `coll_table`, `keys` of `coll_key`, `sessions` and `batches` of `coll_requests` and `coll_bench`,
-//! `surveys` of `coll_surveys`, `order_lines` of `coll_sources`, `meanings` of `coll_meanings`, `imports` of `coll_import`,
-//! `listed_words` of `coll_edit`, and `faults` of the shown text of the faults of all of them. `writes` is of what any of them writes to
-//! a device that fails, and `endless` of readers that never end; `growths` says which of them are run with growths of memory refused.
-//! `statements` makes statements of their lines, `devices` has the devices that they use, `long_texts` makes their longest texts,
-//! `random` has the numbers by which others are made, and `assertions` compares what they are given.
+//! `surveys` of `coll_surveys`, `order_lines` of `coll_sources`, `meanings` of `coll_meanings`, `imports` of `coll_import`, and `faults`
+//! of the shown text of the faults of all of them. `writes` is of what any of them writes to a device that fails, and `endless` of
+//! readers that never end; `growths` says which of them are run with growths of memory refused. `statements` makes statements of their
+//! lines, `devices` has the devices that they use, `long_texts` makes their longest texts, `random` has the numbers by which others are
+//! made, and `assertions` compares what they are given.
 //! Expected values come from POSIX.1-2017 (7.3.2), from ISO/IEC 14651 and from docs/, and never from what a program wrote.
-//! `surveys`, `order_lines`, `meanings` and `listed_words` alone compare two forms of a thing: the fast one tells what the one that
-//! reads all of it tells.
+//! `surveys`, `order_lines` and `meanings` alone compare two forms of a thing: the fast one tells what the one that reads all of it tells.
 //! What only takes a text and gives one is a run of the program, in tests/runs, unless it is a worked example.
 //! What no public call shows is proved, and has no test. The crates below have no tests of their own, since a crate with
 //! tests is proved twice.
@@ -35,8 +34,6 @@ mod imports;
 mod keys;
 #[cfg(test)]
 mod lines;
-#[cfg(test)]
-mod listed_words;
 #[cfg(test)]
 mod long_texts;
 #[cfg(test)]

@@ -19,7 +19,7 @@ use coll_meanings::{Found, Placed, SourceIds};
 use coll_sources::{Said, SourceLine, SourcePlace};
 use coll_syntax::{Id, OrderLine, Weight};
 use coll_table::{HashKeys, Table};
-use forms::{ByName, ByNumber, Plain, Tailored};
+use forms::{by_name, by_number, plain_form, tailored_form};
 use made_sources::{Made, said};
 use std::alloc::{AllocError, Global};
 use std::process::Abort;
@@ -98,18 +98,6 @@ fn all_named(rt: &impl Abort, alloc: Global, names: &[&str]) -> Vec<Id> {
     ids
 }
 
-// Asserts that the same is told of these lines over no table, in each form.
-fn assert_over_none(rt: &impl Abort, alloc: Global, lines: &[SourceLine], ids: &[Id]) {
-    let wanted = told(rt, alloc, Plain::new(alloc), lines, ids);
-    let by_name = told(rt, alloc, ByName::new(alloc), lines, ids);
-    assert_text(rt, alloc, &by_name, &wanted);
-    drop(by_name);
-    let by_number = told(rt, alloc, ByNumber::new(alloc), lines, ids);
-    assert_text(rt, alloc, &by_number, &wanted);
-    drop(by_number);
-    drop(wanted);
-}
-
 // A table, what it places, and the names that are looked at.
 #[derive(Drop)]
 struct Tailoring {
@@ -127,18 +115,28 @@ fn this_tailoring(rt: &impl Abort, alloc: Global) -> Tailoring {
     }
 }
 
-// Asserts that the same is told of these lines over a table, in each form.
-fn assert_over(rt: &impl Abort, alloc: Global, over: &Tailoring, lines: &[SourceLine]) {
-    let plain = Plain::over(alloc, &over.table, &over.placed).expect(rt, "a plain copy");
-    let wanted = told(rt, alloc, plain, lines, &over.names);
-    let copy = ByName::over(alloc, &over.table, &over.placed).expect(rt, "a copy");
-    let by_name = told(rt, alloc, copy, lines, &over.names);
-    assert_text(rt, alloc, &by_name, &wanted);
-    drop(by_name);
-    let tailored = Tailored::over(alloc, &over.table);
-    let asked = told(rt, alloc, tailored, lines, &over.names);
-    assert_text(rt, alloc, &asked, &wanted);
-    drop(asked);
+// Asserts that the same is told of these lines in each form, over a table if one is given.
+fn assert_lines(
+    rt: &impl Abort,
+    alloc: Global,
+    over: Option<&Tailoring>,
+    lines: &[SourceLine],
+    ids: &[Id],
+) {
+    let (table, placed): (Option<&Table>, &[Id]) = match over {
+        Some(over) => (Some(&over.table), &over.placed),
+        None => (None, &[]),
+    };
+    let wanted = told(rt, alloc, plain_form(rt, alloc, table, placed), lines, ids);
+    let one_by_one = told(rt, alloc, by_name(rt, alloc, table, placed), lines, ids);
+    assert_text(rt, alloc, &one_by_one, &wanted);
+    drop(one_by_one);
+    let kept = match table {
+        Some(table) => told(rt, alloc, tailored_form(alloc, table), lines, ids),
+        None => told(rt, alloc, by_number(alloc), lines, ids),
+    };
+    assert_text(rt, alloc, &kept, &wanted);
+    drop(kept);
     drop(wanted);
 }
 
@@ -157,8 +155,8 @@ fn assert_alike(rt: &impl Abort, alloc: Global, over: &Tailoring, first: &str, s
     let text = source(alloc, first, second).expect(rt, "a text");
     let lines = said(rt, alloc, &text);
     drop(text);
-    assert_over_none(rt, alloc, &lines, &over.names);
-    assert_over(rt, alloc, over, &lines);
+    assert_lines(rt, alloc, None, &lines, &over.names);
+    assert_lines(rt, alloc, Some(over), &lines, &over.names);
     drop(lines);
 }
 
@@ -184,10 +182,10 @@ const SOURCES: u64 = 60;
 // The lines of a source that is made, of which the seed is this.
 fn made_lines(rt: &impl Abort, alloc: Global, seed: u64) -> Vec<SourceLine> {
     let mut made = Made::new(alloc, seed);
-    made.push("LC_COLLATE\n").expect(rt, "a head");
+    made.push(b"LC_COLLATE\n").expect(rt, "a head");
     made.declarations(16).expect(rt, "declarations");
     made.orders(48).expect(rt, "order lines");
-    made.push("END LC_COLLATE\n").expect(rt, "an end");
+    made.push(b"END LC_COLLATE\n").expect(rt, "an end");
     let text = made.into_text();
     let lines = said(rt, alloc, &text);
     drop(text);
@@ -227,8 +225,8 @@ fn assert_made(rt: &impl Abort, alloc: Global, over: &Tailoring, seed: u64) {
     if seed % 4 == 0 {
         push_none(rt, alloc, &mut lines);
     }
-    assert_over_none(rt, alloc, &lines, &over.names);
-    assert_over(rt, alloc, over, &lines);
+    assert_lines(rt, alloc, None, &lines, &over.names);
+    assert_lines(rt, alloc, Some(over), &lines, &over.names);
     drop(lines);
 }
 
@@ -245,13 +243,13 @@ fn made_sources_mean_what_names_kept_one_by_one_do(rt: HostRuntime) {
 fn far_lines(rt: &impl Abort, alloc: Global, count: usize) -> Vec<SourceLine> {
     let mut made = Made::new(alloc, count as u64);
     let mut orders = Made::new(alloc, 0);
-    made.push("LC_COLLATE\n").expect(rt, "a head");
+    made.push(b"LC_COLLATE\n").expect(rt, "a head");
     made.far_ranges(count, &mut orders).expect(rt, "ranges");
     made.declarations(4).expect(rt, "declarations");
     let orders = orders.into_text();
-    made.push_bytes(&orders).expect(rt, "order lines");
+    made.push(&orders).expect(rt, "order lines");
     drop(orders);
-    made.push("END LC_COLLATE\n").expect(rt, "an end");
+    made.push(b"END LC_COLLATE\n").expect(rt, "an end");
     let text = made.into_text();
     let lines = said(rt, alloc, &text);
     drop(text);
@@ -262,7 +260,7 @@ fn far_lines(rt: &impl Abort, alloc: Global, count: usize) -> Vec<SourceLine> {
 fn as_many_ranges_as_are_kept_and_more_mean_what_names_kept_one_by_one_do(rt: HostRuntime) {
     for count in 62usize..=67 {
         let lines = far_lines(&rt, rt.alloc(), count);
-        assert_over_none(&rt, rt.alloc(), &lines, &[]);
+        assert_lines(&rt, rt.alloc(), None, &lines, &[]);
         drop(lines);
     }
 }
@@ -278,8 +276,8 @@ fn assert_full(rt: &impl Abort, alloc: Global, declared: &str) {
     let text = source(alloc, declared, "").expect(rt, "a text");
     let lines = said(rt, alloc, &text);
     drop(text);
-    let wanted = told(rt, alloc, Plain::new(alloc), &lines, &ids);
-    let given = told(rt, alloc, ByNumber::new(alloc), &lines, &ids);
+    let wanted = told(rt, alloc, plain_form(rt, alloc, None, &[]), &lines, &ids);
+    let given = told(rt, alloc, by_number(alloc), &lines, &ids);
     assert_text(rt, alloc, &given, &wanted);
     drop(given);
     drop(wanted);

@@ -4,10 +4,10 @@
 //! character: such a line is read token by token. What the line says, or its fault, has to be the same.
 
 use crate::assertions::assert_text;
-use crate::meanings::told::{tell_fault, tell_losses, tell_order};
+use crate::meanings::told::{tell, tell_losses};
 use crate::random::Random;
 use coll_lex::Counted;
-use coll_sources::{Said, SourceFault, SourceKind, SourceLine, SourcePlace, SourceReader};
+use coll_sources::{Said, SourceKind, SourceLine, SourceReader};
 use coll_table::HashKeys;
 use std::alloc::{AllocError, Global};
 use std::process::Abort;
@@ -226,27 +226,14 @@ fn push_source(
     Ok(())
 }
 
-// Tells what a line says.
-fn tell_said(rt: &impl Abort, said: &Said, text: &mut Vec<u8>) {
-    match said {
-        Said::Order(line) => tell_order(rt, line, text),
-        Said::Unread => text.extend_from_slice(b"unread\n").expect(rt, "a text"),
-        _ => text.extend_from_slice(b"another\n").expect(rt, "a text"),
-    }
-}
-
 // Tells what lines say.
-fn tell_all(rt: &impl Abort, lines: &[SourceLine], text: &mut Vec<u8>) {
+fn tell_all(rt: &impl Abort, alloc: Global, lines: &[SourceLine], text: &mut Vec<u8>) {
     for line in lines {
-        tell_said(rt, &line.said, text);
-    }
-}
-
-// A fault without its place.
-fn placeless(fault: SourceFault) -> SourceFault {
-    SourceFault {
-        place: SourcePlace { text: 0, line: 0 },
-        cause: fault.cause,
+        match &line.said {
+            Said::Order(order) => tell(rt, alloc, order, text),
+            Said::Unread => tell(rt, alloc, "unread", text),
+            _ => tell(rt, alloc, "another", text),
+        }
     }
 }
 
@@ -261,10 +248,10 @@ fn read(rt: &impl Abort, alloc: Global, source: &[u8]) -> Vec<u8> {
         &[],
     ).expect(rt, "a reader");
     if let Err(fault) = reader.take_text(&mut Counted::new(source)) {
-        tell_fault(rt, placeless(fault), &mut told);
+        tell(rt, alloc, fault.cause.number(), &mut told);
     }
     let (lines, report) = reader.into_parts();
-    tell_all(rt, &lines, &mut told);
+    tell_all(rt, alloc, &lines, &mut told);
     tell_losses(rt, report.losses(), &mut told);
     drop(lines);
     drop(report);

@@ -11,24 +11,25 @@ use coll_meanings::{
     without_weights_of_symbol,
 };
 use coll_sources::{Report, SourceFault, SourceLine, SourcePlace, name_at};
-use coll_syntax::{Id, OrderLine, Statement, Weight};
+use coll_syntax::{Id, OrderLine, Statement};
 use coll_table::{HashKeys, Table};
 use std::alloc::{AllocError, Global};
+use std::process::Abort;
 use std::vec::IntoIter;
 
 // How many weights an entry may have.
 const LEVELS: usize = 3;
+
+/// An order line, and what is told of it.
+pub type ToldLine = (OrderLine, bool);
 
 /// What a source means, and what it places.
 pub trait Form: Drop {
     /// Takes what these lines declare.
     fn take(&mut self, lines: &[SourceLine], report: &mut Report) -> Result<(), SourceFault>;
 
-    /// Whether an identifier is a symbol's.
-    fn is_symbol(&self, id: &Id) -> bool;
-
-    /// What an identifier stands for.
-    fn resolved(&self, id: Id) -> Result<Id, AllocError>;
+    /// What an identifier stands for, and whether it is a symbol's itself.
+    fn meaning(&self, id: &Id) -> Result<(Id, bool), AllocError>;
 
     /// An order line, whose identifier is what it stands for.
     fn meant(&self, line: OrderLine) -> Result<OrderLine, AllocError>;
@@ -41,27 +42,21 @@ pub trait Form: Drop {
         report: &mut Report,
     ) -> Result<(), SourceFault>;
 
-    /// An order line without the weights of a symbol.
-    fn without_weights(
-        &self,
+    /// Places an order line, without the weights of a symbol. The answer has whether its identifier wasn't placed.
+    fn put(
+        &mut self,
         place: SourcePlace,
         line: OrderLine,
         report: &mut Report,
-    ) -> Result<OrderLine, SourceFault>;
+    ) -> Result<ToldLine, SourceFault>;
 
-    /// Places an identifier, and answers whether it wasn't placed.
-    fn put(&mut self, id: &Id) -> Result<bool, AllocError>;
-
-    /// Whether all that weights name is placed, and stands for nothing else.
-    fn all_stay(&self, weights: &[Weight]) -> bool;
-
-    /// An order line whose weights name what is placed.
+    /// An order line whose weights name what is placed. The answer has whether all that they named was placed, and stands for nothing else.
     fn weighed(
         &mut self,
         place: SourcePlace,
         line: OrderLine,
         report: &mut Report,
-    ) -> Result<OrderLine, SourceFault>;
+    ) -> Result<ToldLine, SourceFault>;
 
     /// What lines declare, one by one.
     fn declared(&mut self) -> Result<Vec<SourceStatement>, AllocError>;
@@ -70,9 +65,9 @@ pub trait Form: Drop {
 /// The plain form.
 #[derive(Drop)]
 pub struct Plain {
-    pub meanings: PlainMeanings,
-    pub placed: IdSet,
-    pub alloc: Global,
+    meanings: PlainMeanings,
+    placed: IdSet,
+    alloc: Global,
 }
 
 impl Form for Plain {
@@ -80,12 +75,9 @@ impl Form for Plain {
         self.meanings.take_all(lines, report)
     }
 
-    fn is_symbol(&self, id: &Id) -> bool {
-        self.meanings.is_symbol(id)
-    }
-
-    fn resolved(&self, id: Id) -> Result<Id, AllocError> {
-        self.meanings.resolved(id)
+    fn meaning(&self, id: &Id) -> Result<(Id, bool), AllocError> {
+        let other = self.meanings.resolved(id.clone()?)?;
+        Ok((other, self.meanings.is_symbol(id)))
     }
 
     fn meant(&self, line: OrderLine) -> Result<OrderLine, AllocError> {
@@ -101,27 +93,15 @@ impl Form for Plain {
         self.meanings.declare_placed(place, id, report)
     }
 
-    fn without_weights(
-        &self,
+    fn put(
+        &mut self,
         place: SourcePlace,
         line: OrderLine,
         report: &mut Report,
-    ) -> Result<OrderLine, SourceFault> {
-        plain_without_symbol_weights(&self.meanings, place, line, report)
-    }
-
-    fn put(&mut self, id: &Id) -> Result<bool, AllocError> {
-        self.placed.put_free(id)
-    }
-
-    fn all_stay(&self, weights: &[Weight]) -> bool {
-        let look_up = PlainLookUp {
-            meanings: &self.meanings,
-            placed: &self.placed,
-            levels: LEVELS,
-            alloc: self.alloc,
-        };
-        look_up.all_stay(weights)
+    ) -> Result<ToldLine, SourceFault> {
+        let line = plain_without_symbol_weights(&self.meanings, place, line, report)?;
+        let is_new = self.placed.put_free(&line.id)?;
+        Ok((line, is_new))
     }
 
     fn weighed(
@@ -129,14 +109,18 @@ impl Form for Plain {
         place: SourcePlace,
         line: OrderLine,
         report: &mut Report,
-    ) -> Result<OrderLine, SourceFault> {
+    ) -> Result<ToldLine, SourceFault> {
         let look_up = PlainLookUp {
             meanings: &self.meanings,
             placed: &self.placed,
             levels: LEVELS,
             alloc: self.alloc,
         };
-        look_up.line(place, line, report)
+        let stays = match &line.weights {
+            Some(weights) => look_up.all_stay(weights.get()),
+            None => true,
+        };
+        Ok((look_up.line(place, line, report)?, stays))
     }
 
     fn declared(&mut self) -> Result<Vec<SourceStatement>, AllocError> {
@@ -144,106 +128,28 @@ impl Form for Plain {
     }
 }
 
-/// Names one by one, and what is placed by identifier.
+/// Names by what is kept of them.
 #[derive(Drop)]
-pub struct ByName {
-    pub meanings: Meanings,
-    pub placed: IdSet,
-    pub alloc: Global,
-}
-
-impl Form for ByName {
-    fn take(&mut self, lines: &[SourceLine], report: &mut Report) -> Result<(), SourceFault> {
-        self.meanings.take_all(lines, report)
-    }
-
-    fn is_symbol(&self, id: &Id) -> bool {
-        self.meanings.is_symbol(id)
-    }
-
-    fn resolved(&self, id: Id) -> Result<Id, AllocError> {
-        self.meanings.resolved(id)
-    }
-
-    fn meant(&self, line: OrderLine) -> Result<OrderLine, AllocError> {
-        self.meanings.meant(line)
-    }
-
-    fn declare(
-        &mut self,
-        place: SourcePlace,
-        id: &Id,
-        report: &mut Report,
-    ) -> Result<(), SourceFault> {
-        self.meanings.declare_placed(place, id, report)
-    }
-
-    fn without_weights(
-        &self,
-        place: SourcePlace,
-        line: OrderLine,
-        report: &mut Report,
-    ) -> Result<OrderLine, SourceFault> {
-        without_symbol_weights(&self.meanings, place, line, report)
-    }
-
-    fn put(&mut self, id: &Id) -> Result<bool, AllocError> {
-        self.placed.put_free(id)
-    }
-
-    fn all_stay(&self, weights: &[Weight]) -> bool {
-        let look_up = WeightLookUp {
-            meanings: &self.meanings,
-            placed: &self.placed,
-            levels: LEVELS,
-            alloc: self.alloc,
-        };
-        look_up.all_stay(weights)
-    }
-
-    fn weighed(
-        &mut self,
-        place: SourcePlace,
-        line: OrderLine,
-        report: &mut Report,
-    ) -> Result<OrderLine, SourceFault> {
-        let look_up = WeightLookUp {
-            meanings: &self.meanings,
-            placed: &self.placed,
-            levels: LEVELS,
-            alloc: self.alloc,
-        };
-        look_up.line(place, line, report)
-    }
-
-    fn declared(&mut self) -> Result<Vec<SourceStatement>, AllocError> {
-        Ok(self.meanings.take_declared())
-    }
-}
-
-/// Ranges as they are, where they can be, and what is placed by what was found of it.
-#[derive(Drop)]
-pub struct ByNumber {
-    pub meanings: Meanings,
-    pub placed: Placed,
+pub struct Named {
+    meanings: Meanings,
+    // Whether ranges are kept as they are, and what is placed goes by what is found of it.
+    keeps_ranges: bool,
+    placed: Placed,
     // The same by identifier.
-    pub ids: IdSet,
-    pub guess: NameGuess,
-    pub last: LastNames,
-    pub alloc: Global,
+    ids: IdSet,
+    guess: NameGuess,
+    last: LastNames,
+    alloc: Global,
 }
 
-impl Form for ByNumber {
+impl Form for Named {
     fn take(&mut self, lines: &[SourceLine], report: &mut Report) -> Result<(), SourceFault> {
         self.meanings.take_all(lines, report)
     }
 
-    fn is_symbol(&self, id: &Id) -> bool {
-        self.meanings.is_symbol(id)
-    }
-
-    fn resolved(&self, id: Id) -> Result<Id, AllocError> {
-        self.meanings.resolved(id)
+    fn meaning(&self, id: &Id) -> Result<(Id, bool), AllocError> {
+        let other = self.meanings.resolved(id.clone()?)?;
+        Ok((other, self.meanings.is_symbol(id)))
     }
 
     fn meant(&self, line: OrderLine) -> Result<OrderLine, AllocError> {
@@ -259,44 +165,47 @@ impl Form for ByNumber {
         self.meanings.declare_placed(place, id, report)
     }
 
-    fn without_weights(
-        &self,
+    fn put(
+        &mut self,
         place: SourcePlace,
         line: OrderLine,
         report: &mut Report,
-    ) -> Result<OrderLine, SourceFault> {
-        without_symbol_weights(&self.meanings, place, line, report)
+    ) -> Result<ToldLine, SourceFault> {
+        let line = without_symbol_weights(&self.meanings, place, line, report)?;
+        let mut is_new = self.ids.put_free(&line.id)?;
+        if self.keeps_ranges {
+            let found = self.meanings.found_behind(&line.id, &mut self.guess);
+            is_new = self.placed.put(found)?;
+        }
+        Ok((line, is_new))
     }
 
-    fn put(&mut self, id: &Id) -> Result<bool, AllocError> {
-        self.ids.insert(id)?;
-        let found = self.meanings.found_behind(id, &mut self.guess);
-        self.placed.put(found)
-    }
-
-    fn all_stay(&self, weights: &[Weight]) -> bool {
-        let look_up = WeightLookUp {
+    fn weighed(
+        &mut self,
+        place: SourcePlace,
+        line: OrderLine,
+        report: &mut Report,
+    ) -> Result<ToldLine, SourceFault> {
+        let by_name = WeightLookUp {
             meanings: &self.meanings,
             placed: &self.ids,
             levels: LEVELS,
             alloc: self.alloc,
         };
-        look_up.all_stay(weights)
-    }
-
-    fn weighed(
-        &mut self,
-        place: SourcePlace,
-        line: OrderLine,
-        report: &mut Report,
-    ) -> Result<OrderLine, SourceFault> {
-        let look_up = PlacedLookUp {
+        let stays = match &line.weights {
+            Some(weights) => by_name.all_stay(weights.get()),
+            None => true,
+        };
+        if !self.keeps_ranges {
+            return Ok((by_name.line(place, line, report)?, stays));
+        }
+        let by_number = PlacedLookUp {
             meanings: &self.meanings,
             placed: &self.placed,
             levels: LEVELS,
             alloc: self.alloc,
         };
-        look_up.line(place, line, &mut self.last, report)
+        Ok((by_number.line(place, line, &mut self.last, report)?, stays))
     }
 
     fn declared(&mut self) -> Result<Vec<SourceStatement>, AllocError> {
@@ -360,9 +269,9 @@ fn put_range(
 /// A table that is asked, and what is placed beside what it places.
 #[derive(Drop)]
 pub struct Tailored<'t> {
-    pub meanings: TableMeanings<'t>,
-    pub placed: SourceIds,
-    pub alloc: Global,
+    meanings: TableMeanings<'t>,
+    placed: SourceIds,
+    alloc: Global,
 }
 
 impl Form for Tailored<'_> {
@@ -370,12 +279,9 @@ impl Form for Tailored<'_> {
         self.meanings.take_all(lines, report)
     }
 
-    fn is_symbol(&self, id: &Id) -> bool {
-        self.meanings.is_symbol(id)
-    }
-
-    fn resolved(&self, id: Id) -> Result<Id, AllocError> {
-        self.meanings.resolved(id)
+    fn meaning(&self, id: &Id) -> Result<(Id, bool), AllocError> {
+        let other = self.meanings.resolved(id.clone()?)?;
+        Ok((other, self.meanings.is_symbol(id)))
     }
 
     fn meant(&self, line: OrderLine) -> Result<OrderLine, AllocError> {
@@ -391,35 +297,22 @@ impl Form for Tailored<'_> {
         self.meanings.declare_placed(place, id, report)
     }
 
-    fn without_weights(
-        &self,
+    fn put(
+        &mut self,
         place: SourcePlace,
         line: OrderLine,
         report: &mut Report,
-    ) -> Result<OrderLine, SourceFault> {
-        without_weights_of_symbol(&self.meanings, place, line, report)
-    }
-
-    fn put(&mut self, id: &Id) -> Result<bool, AllocError> {
+    ) -> Result<ToldLine, SourceFault> {
+        let line = without_weights_of_symbol(&self.meanings, place, line, report)?;
         let look_up = TailoredLookUp {
             meanings: &self.meanings,
             placed: &self.placed,
             levels: LEVELS,
             alloc: self.alloc,
         };
-        let is_placed = look_up.is_placed(id);
-        self.placed.put(id)?;
-        Ok(!is_placed)
-    }
-
-    fn all_stay(&self, weights: &[Weight]) -> bool {
-        let look_up = TailoredLookUp {
-            meanings: &self.meanings,
-            placed: &self.placed,
-            levels: LEVELS,
-            alloc: self.alloc,
-        };
-        look_up.all_stay(weights)
+        let is_placed = look_up.is_placed(&line.id);
+        self.placed.put(&line.id)?;
+        Ok((line, !is_placed))
     }
 
     fn weighed(
@@ -427,14 +320,18 @@ impl Form for Tailored<'_> {
         place: SourcePlace,
         line: OrderLine,
         report: &mut Report,
-    ) -> Result<OrderLine, SourceFault> {
+    ) -> Result<ToldLine, SourceFault> {
         let look_up = TailoredLookUp {
             meanings: &self.meanings,
             placed: &self.placed,
             levels: LEVELS,
             alloc: self.alloc,
         };
-        look_up.line(place, line, report)
+        let stays = match &line.weights {
+            Some(weights) => look_up.all_stay(weights.get()),
+            None => true,
+        };
+        Ok((look_up.line(place, line, report)?, stays))
     }
 
     fn declared(&mut self) -> Result<Vec<SourceStatement>, AllocError> {
@@ -442,96 +339,67 @@ impl Form for Tailored<'_> {
     }
 }
 
-impl Plain {
-    /// Nothing is declared or placed yet.
-    pub fn new(alloc: Global) -> Plain {
-        let keys = HashKeys::zeros();
-        Plain {
-            meanings: PlainMeanings::new(alloc, keys),
-            placed: IdSet::new(alloc, keys),
-            alloc,
-        }
-    }
-
-    /// What is declared is what a table declares, and what is placed is this.
-    pub fn over(alloc: Global, table: &Table, placed: &[Id]) -> Result<Plain, AllocError> {
-        let keys = HashKeys::zeros();
-        let placed = set_of(alloc, placed)?;
-        match PlainMeanings::of_table(alloc, keys, table) {
-            Ok(meanings) => Ok(Plain {
-                meanings,
-                placed,
-                alloc,
-            }),
-            Err(error) => {
-                drop(placed);
-                Err(error)
-            }
-        }
+/// The plain form, over a table of which these are placed, if one is given.
+pub fn plain_form(rt: &impl Abort, alloc: Global, table: Option<&Table>, placed: &[Id]) -> Plain {
+    let keys = HashKeys::zeros();
+    let meanings = match table {
+        Some(table) => PlainMeanings::of_table(alloc, keys, table).expect(rt, "meanings"),
+        None => PlainMeanings::new(alloc, keys),
+    };
+    Plain {
+        meanings,
+        placed: set_of(rt, alloc, placed),
+        alloc,
     }
 }
 
-impl ByName {
-    /// Nothing is declared or placed yet.
-    pub fn new(alloc: Global) -> ByName {
-        let keys = HashKeys::zeros();
-        ByName {
-            meanings: Meanings::new(alloc, keys),
-            placed: IdSet::new(alloc, keys),
-            alloc,
-        }
-    }
-
-    /// What is declared is what a table declares, and what is placed is this.
-    pub fn over(alloc: Global, table: &Table, placed: &[Id]) -> Result<ByName, AllocError> {
-        let keys = HashKeys::zeros();
-        let placed = set_of(alloc, placed)?;
-        match Meanings::of_table(alloc, keys, table) {
-            Ok(meanings) => Ok(ByName {
-                meanings,
-                placed,
-                alloc,
-            }),
-            Err(error) => {
-                drop(placed);
-                Err(error)
-            }
-        }
+/// Names one by one, over a table of which these are placed, if one is given.
+pub fn by_name(rt: &impl Abort, alloc: Global, table: Option<&Table>, placed: &[Id]) -> Named {
+    let keys = HashKeys::zeros();
+    let meanings = match table {
+        Some(table) => Meanings::of_table(alloc, keys, table).expect(rt, "meanings"),
+        None => Meanings::new(alloc, keys),
+    };
+    Named {
+        meanings,
+        keeps_ranges: false,
+        placed: Placed::new(alloc, keys),
+        ids: set_of(rt, alloc, placed),
+        guess: NameGuess::new(),
+        last: LastNames::new(alloc),
+        alloc,
     }
 }
 
-impl ByNumber {
-    /// Nothing is declared or placed yet.
-    pub fn new(alloc: Global) -> ByNumber {
-        let keys = HashKeys::zeros();
-        ByNumber {
-            meanings: Meanings::keeping_ranges(alloc, keys),
-            placed: Placed::new(alloc, keys),
-            ids: IdSet::new(alloc, keys),
-            guess: NameGuess::new(),
-            last: LastNames::new(alloc),
-            alloc,
-        }
+/// Ranges as they are, where they can be, and what is placed by what was found of it.
+pub fn by_number(alloc: Global) -> Named {
+    let keys = HashKeys::zeros();
+    Named {
+        meanings: Meanings::keeping_ranges(alloc, keys),
+        keeps_ranges: true,
+        placed: Placed::new(alloc, keys),
+        ids: IdSet::new(alloc, keys),
+        guess: NameGuess::new(),
+        last: LastNames::new(alloc),
+        alloc,
     }
 }
 
-impl<'t> Tailored<'t> {
-    /// What is declared and placed is what a table declares and places.
-    pub fn over(alloc: Global, table: &'t Table) -> Tailored<'t> {
-        let keys = HashKeys::zeros();
-        Tailored {
-            meanings: TableMeanings::new(alloc, keys, table),
-            placed: SourceIds::new(alloc, keys),
-            alloc,
-        }
+/// What is declared and placed is what a table declares and places.
+pub fn tailored_form(alloc: Global, table: &Table) -> Tailored<'_> {
+    let keys = HashKeys::zeros();
+    Tailored {
+        meanings: TableMeanings::new(alloc, keys, table),
+        placed: SourceIds::new(alloc, keys),
+        alloc,
     }
 }
 
 // These identifiers.
-fn set_of(alloc: Global, ids: &[Id]) -> Result<IdSet, AllocError> {
+fn set_of(rt: &impl Abort, alloc: Global, ids: &[Id]) -> IdSet {
     let mut set = IdSet::new(alloc, HashKeys::zeros());
     for id in ids {
-        set.insert(id)?;
+        set.insert(id).expect(rt, "an identifier");
     }
-    Ok(set)
+    set
 }

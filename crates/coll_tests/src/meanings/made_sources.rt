@@ -1,4 +1,7 @@
 //! Sources that are made: declarations, ranges of names among them, and order lines that name what is declared, or nearly.
+//!
+//! They are written by patterns. In a pattern `#` stands for a name that may be declared, `@` for such a name or a character, `$` for the
+//! string of an element, `[` and `]` for the first and the last name of a range, and `(` and `)` for those of one whose digits are decimal.
 
 use crate::random::Random;
 use coll_lex::Counted;
@@ -7,11 +10,16 @@ use coll_table::HashKeys;
 use std::alloc::{AllocError, Global};
 use std::process::Abort;
 
-// What names begin with: with two digits behind it a name has up to 19 bytes, and each length around 16.
+// What names begin with: with two digits behind it a name has up to 19 bytes, and each length around 16. The first three come as often
+// as all others.
 const FRONTS: &[&str] = &[
     "S",
     "S0",
     "T",
+    "S",
+    "S0",
+    "T",
+    "S",
     "s",
     "S:",
     "TWELVE_BYTES",
@@ -50,12 +58,28 @@ const STRINGS: &[&str] = &[
     "abcdefghijklmnopq",
 ];
 
+// Declarations, half of them of ranges.
+const DECLARATIONS: &[&str] = &[
+    "collating-symbol [..]\n",
+    "collating-symbol [..]\n",
+    "collating-symbol [..]\n",
+    "collating-symbol (...)\n",
+    "collating-symbol #\n",
+    "collating-symbol #\n",
+    "collating-element # from \"$\"\n",
+    "symbol-equivalence # #\n",
+];
+
+// Weights, most of them a single name.
+const WEIGHTS: &[&str] = &["IGNORE", "..", "\"@@\"", "@", "@", "@", "@", "@"];
+
 /// A source that is being made.
 pub struct Made {
     text: Vec<u8>,
     random: Random,
-    // The front of the names that come next, and whether their digits are in lower case.
+    // What the names begin with that come next, the number of the last one, and whether its digits are in lower case.
     front: &'static str,
+    number: usize,
     is_lower: bool,
 }
 
@@ -76,174 +100,92 @@ impl Made {
             text: Vec::new(alloc),
             random: Random::new(seed),
             front: "S",
+            number: 0,
             is_lower: false,
         }
     }
 
     /// Puts a text behind what is made.
-    pub fn push(&mut self, text: &str) -> Result<(), AllocError> {
-        self.text.extend_from_slice(text.as_bytes())?;
-        Ok(())
-    }
-
-    /// The same of bytes.
-    pub fn push_bytes(&mut self, text: &[u8]) -> Result<(), AllocError> {
+    pub fn push(&mut self, text: &[u8]) -> Result<(), AllocError> {
         self.text.extend_from_slice(text)?;
         Ok(())
     }
 
-    // Puts a number of two hexadecimal digits behind what is made.
-    fn push_number(&mut self, number: usize) -> Result<(), AllocError> {
+    // Puts the name of a number, of two hexadecimal digits, behind what is made.
+    fn push_name(&mut self, number: usize) -> Result<(), AllocError> {
+        self.number = number;
+        self.text.push(b'<')?;
+        self.text.extend_from_slice(self.front.as_bytes())?;
         self.text.push(digit(number / 16, self.is_lower))?;
         self.text.push(digit(number, self.is_lower))?;
+        self.text.push(b'>')?;
         Ok(())
     }
 
-    // Puts the name of a number behind what is made.
-    fn push_name(&mut self, number: usize) -> Result<(), AllocError> {
-        self.push("<")?;
-        self.push(self.front)?;
-        self.push_number(number)?;
-        self.push(">")
-    }
-
-    // Chooses what the names begin with that come next.
-    fn choose_front(&mut self) {
-        let few = if self.random.is_so(50) {
-            3
-        } else {
-            FRONTS.len()
-        };
-        if let Some(front) = FRONTS.get(self.random.below(few)) {
-            self.front = front;
-        }
+    // Puts the first name of a range, below a number, behind what is made.
+    fn push_first(&mut self, limit: usize) -> Result<(), AllocError> {
+        self.front = self.random.one_of(FRONTS);
         self.is_lower = self.random.is_so(10);
-    }
-
-    // A name that may be declared.
-    fn name(&mut self) -> Result<(), AllocError> {
-        if self.random.is_so(25) {
-            let alone = self.random.one_of(ALONE);
-            return self.push(alone);
-        }
-        self.choose_front();
-        let number = self.random.below(72);
+        let number = self.random.below(limit);
         self.push_name(number)
     }
 
-    // A name or a character.
-    fn id(&mut self) -> Result<(), AllocError> {
-        if self.random.is_so(25) {
-            let c = self.random.one_of(CHARS);
-            return self.push(c);
-        }
-        self.name()
+    // Puts one of these behind what is made.
+    fn push_one(&mut self, words: &[&str]) -> Result<(), AllocError> {
+        let word = self.random.one_of(words);
+        self.push(word.as_bytes())
     }
 
-    // A range of names.
-    fn range(&mut self) -> Result<(), AllocError> {
-        self.choose_front();
-        let first = self.random.below(64);
-        let last = first.saturating_add(self.random.below(18));
-        self.push("collating-symbol ")?;
-        self.push_name(first)?;
-        self.push("..")?;
-        self.is_lower = self.random.is_so(20);
-        self.push_name(last)
-    }
-
-    // A range of names whose digits are decimal.
-    fn decimal_range(&mut self) -> Result<(), AllocError> {
-        self.choose_front();
-        let first = self.random.below(10);
-        let last = self.random.below(10).saturating_add(16);
-        self.push("collating-symbol ")?;
-        self.push_name(first)?;
-        self.push("...")?;
-        self.push_name(last)
-    }
-
-    // A declaration that is no range.
-    fn alone(&mut self) -> Result<(), AllocError> {
-        match self.random.below(4) {
-            0 => self.element(),
-            1 => self.second(),
-            _ => {
-                self.push("collating-symbol ")?;
-                self.name()
+    // Puts what a mark of a pattern stands for behind what is made, or the mark itself, where it stands for nothing.
+    fn push_mark(&mut self, mark: u8) -> Result<(), AllocError> {
+        match mark {
+            b'@' if self.random.is_so(25) => self.push_one(CHARS),
+            b'#' | b'@' if self.random.is_so(25) => self.push_one(ALONE),
+            b'#' | b'@' => self.push_first(72),
+            b'$' => self.push_one(STRINGS),
+            b'[' => self.push_first(64),
+            b']' => {
+                self.is_lower = self.random.is_so(20);
+                let last = self.number.saturating_add(self.random.below(18));
+                self.push_name(last)
             }
+            b'(' => self.push_first(10),
+            b')' => {
+                let last = self.random.below(10).saturating_add(16);
+                self.push_name(last)
+            }
+            other => self.push(&[other]),
         }
     }
 
-    // The declaration of an element.
-    fn element(&mut self) -> Result<(), AllocError> {
-        self.push("collating-element ")?;
-        self.name()?;
-        self.push(" from \"")?;
-        let text = self.random.one_of(STRINGS);
-        self.push(text)?;
-        self.push("\"")
-    }
-
-    // The declaration of a second name.
-    fn second(&mut self) -> Result<(), AllocError> {
-        self.push("symbol-equivalence ")?;
-        self.name()?;
-        self.push(" ")?;
-        self.name()
-    }
-
-    // A declaration.
-    fn declaration(&mut self) -> Result<(), AllocError> {
-        match self.random.below(10) {
-            0..=3 => self.range()?,
-            4 => self.decimal_range()?,
-            _ => self.alone()?,
+    // Puts one of these patterns behind what is made.
+    fn push_pattern(&mut self, patterns: &[&str]) -> Result<(), AllocError> {
+        for mark in self.random.one_of(patterns).as_bytes() {
+            self.push_mark(*mark)?;
         }
-        self.push("\n")
+        Ok(())
     }
 
     /// So many declarations at most.
     pub fn declarations(&mut self, most: usize) -> Result<(), AllocError> {
         for _ in 0..self.random.below(most).saturating_add(1) {
-            self.declaration()?;
+            self.push_pattern(DECLARATIONS)?;
         }
         Ok(())
     }
 
-    // A weight.
-    fn weight(&mut self) -> Result<(), AllocError> {
-        match self.random.below(8) {
-            0 => self.push("IGNORE"),
-            1 => self.push(".."),
-            2 => {
-                self.push("\"")?;
-                self.id()?;
-                self.id()?;
-                self.push("\"")
-            }
-            _ => self.id(),
-        }
-    }
-
-    // Weights, up to one more than there are levels.
-    fn weights(&mut self) -> Result<(), AllocError> {
-        self.push(" ")?;
-        self.weight()?;
-        for _ in 0..self.random.below(4) {
-            self.push(";")?;
-            self.weight()?;
-        }
-        Ok(())
-    }
-
-    // An order line.
+    // An order line, with up to one weight more than there are levels.
     fn order(&mut self) -> Result<(), AllocError> {
-        self.id()?;
+        self.push_pattern(&["@"])?;
         if self.random.is_so(70) {
-            self.weights()?;
+            self.push_pattern(&[" "])?;
+            for _ in 0..self.random.below(4) {
+                self.push_pattern(WEIGHTS)?;
+                self.push(b";")?;
+            }
+            self.push_pattern(WEIGHTS)?;
         }
-        self.push("\n")
+        self.push(b"\n")
     }
 
     /// So many order lines.
@@ -254,33 +196,31 @@ impl Made {
         Ok(())
     }
 
-    // A range of few names, far from those of other numbers, and order lines of its first and its last name and of those beside them.
-    fn far_range(&mut self, high: usize, orders: &mut Made) -> Result<(), AllocError> {
-        let last = self.random.below(4).saturating_add(1);
-        self.push("collating-symbol <S")?;
-        self.push_number(high)?;
-        self.push("1>..<S")?;
-        self.push_number(high)?;
-        self.text.push(digit(last, false))?;
-        self.push(">\n")?;
-        orders.far_order(high, 0)?;
-        orders.far_order(high, 1)?;
-        orders.far_order(high, last)?;
-        orders.far_order(high, last.saturating_add(1))
+    // Puts a text behind what is made, in which `#` stands for the three digits of a name: two of a number, and one more.
+    fn push_far(&mut self, text: &str, high: usize, low: usize) -> Result<(), AllocError> {
+        for mark in text.as_bytes() {
+            match *mark {
+                b'#' => {
+                    self.text.push(digit(high / 16, false))?;
+                    self.text.push(digit(high, false))?;
+                    self.text.push(digit(low, false))?;
+                }
+                other => self.text.push(other)?,
+            }
+        }
+        Ok(())
     }
 
-    // An order line of a name near a range that is far from others, which is also the weight of a character.
-    fn far_order(&mut self, high: usize, low: usize) -> Result<(), AllocError> {
-        self.push("<S")?;
-        self.push_number(high)?;
-        self.text.push(digit(low, false))?;
-        self.push(">\n<U4")?;
-        self.push_number(high)?;
-        self.text.push(digit(low, false))?;
-        self.push("> <S")?;
-        self.push_number(high)?;
-        self.text.push(digit(low, false))?;
-        self.push(">\n")
+    // A range of few names, far from those of other numbers, and order lines of its first and its last name and of those beside them, each
+    // of which is also the weight of a character.
+    fn far_range(&mut self, high: usize, orders: &mut Made) -> Result<(), AllocError> {
+        let last = self.random.below(4).saturating_add(1);
+        self.push_far("collating-symbol <S#>..", high, 1)?;
+        self.push_far("<S#>\n", high, last)?;
+        for low in [0, 1, last, last.saturating_add(1)] {
+            orders.push_far("<S#>\n<U4#> <S#>\n", high, low)?;
+        }
+        Ok(())
     }
 
     /// So many ranges that are far from each other, in some order; their order lines go to another text.
@@ -298,6 +238,7 @@ impl Made {
             text,
             random: _,
             front: _,
+            number: _,
             is_lower: _,
         } = self;
         text
