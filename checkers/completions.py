@@ -7,9 +7,9 @@ PROGRAM is crates/collbench/out/collbench where none is given. From its help com
 operands of each with what is said of them. Then each shell that is installed completes command lines up to one operand more than a
 subcommand takes: there have to be all files where a TABLE, a DELTA, WORDS or a SOURCE stands, those alone that begin as the word does,
 and nothing where a text or a name does. `help` takes one subcommand. Options are there for a word that begins with `-`, but neither
-where a text stands, nor behind it, nor for `help`. In bash the function is called with COMP_WORDS set, and gives COMPREPLY. zsh completes each line in its line editor,
-under a pseudo-terminal, where the matches are noted as they are added, with what is told of them: of an operand what help says of it,
-and of each subcommand its sentence. A shell that is left out is said.
+where a text stands, nor behind it, nor for `help`. In bash the function is called with COMP_WORDS set, and gives COMPREPLY. zsh
+completes each line in its line editor, under a pseudo-terminal, where the matches are noted as they are added, with what is told of
+them: of an operand what help says of it, and of each subcommand its sentence. A shell that is left out is said.
 
 The last line is 'N passed, M failed', where a run is one command line in one shell.
 """
@@ -28,7 +28,7 @@ import sys
 import tempfile
 import termios
 
-from man_pages import Unread, helped, pairs
+from man_pages import Unread, has_terminal, helped, pairs
 from run_program import PROGRAM, ROOT
 
 BASH = f"{ROOT}/share/bash-completion/completions/collbench"
@@ -130,7 +130,8 @@ def lines_of(program):
 
 def redirected():
     """Returns lines that redirect to a file, which zsh completes by itself."""
-    return [Line([*words, "w"], ["words.txt"], None) for words in (["sort", "base.txt", "<"], ["key", "base.txt", "a", ">"], ["import", "2>"])]
+    before = (["sort", "base.txt", "<"], ["key", "base.txt", "a", ">"], ["import", "2>"])
+    return [Line([*words, "w"], ["words.txt"], None) for words in before]
 
 
 def completed_by_bash(lines, folder):
@@ -215,10 +216,10 @@ def all_looks(program, folder):
         yield from (("bash", line, why) for line, why in looks_at_bash(lines, folder))
     else:
         print("bash is not installed: its completion was not tried", flush=True)
-    if shutil.which("zsh"):
-        yield from (("zsh", line, why) for line, why in looks_at_zsh(lines, folder, sentences))
-    else:
+    if not shutil.which("zsh"):
         print("zsh is not installed: its completion was not tried", flush=True)
+    elif has_terminal("the completion for zsh was not tried"):
+        yield from (("zsh", line, why) for line, why in looks_at_zsh(lines, folder, sentences))
 
 
 def run_all(program):

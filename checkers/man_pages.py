@@ -366,13 +366,13 @@ def typed(display):
     return command.split()[2:], steps, f"{end}\n", last, {}
 
 
-def has_terminal():
-    """Whether the system has a pseudo-terminal; where it has none, that is said."""
+def has_terminal(left_out):
+    """Whether the system has a pseudo-terminal; where it has none, what is left out is said."""
     try:
         for end in edit_terminal.open_terminal():
             os.close(end)
     except OSError as error:
-        print(f"no edit of the pages was typed: {error}", flush=True)
+        print(f"{left_out}: {error}", flush=True)
         return False
     return True
 
@@ -385,7 +385,7 @@ def examples_compared(program, page, sections):
                 folder = shutil.copytree(f"{ROOT}/examples", f"{room}/examples")
                 if not re.search(r"^> ", display, re.M):
                     yield compared(f"{page}: the example of {title}", replies(program, folder, display), display)
-                elif has_terminal():
+                elif has_terminal("no edit of the pages was typed"):
                     ran = edit_terminal.run(program, typed(display), folder)
                     yield f"{page}: the example of {title}", "" if ran else "it was typed, and the screen is told above"
 
