@@ -7,15 +7,12 @@ usage: checkers/build_program.py
 """
 
 import concurrent.futures
-import os
 import re
-import shutil
 import subprocess
 import sys
-import tempfile
 
 from run_program import PROGRAM, ROOT
-from scratch_copies import KEPT, copied, lanes, libraries
+from scratch_copies import lanes, libraries
 
 TOP = "collbench"
 # Lines on what is proved, and on what was read for it.
@@ -40,22 +37,9 @@ def told(crate, words, folder):
     return build.returncode
 
 
-def proved(crate, below, jobs):
-    """Proves a library in a scratch copy of it and of those below, and keeps what was proved, also of a part.
-
-    Returns whether it is proved.
-    """
-    with tempfile.TemporaryDirectory(prefix="prove-") as room:
-        copied(room, [*below, crate], KEPT)
-        folder = f"{room}/crates/{crate}"
-        try:
-            return told(crate, ["lib", *jobs], folder) == 0
-        finally:
-            for part in KEPT:
-                kept = f"{ROOT}/crates/{crate}/out/{part}"
-                if os.path.isdir(f"{folder}/out/{part}"):
-                    shutil.rmtree(kept, ignore_errors=True)
-                    shutil.move(f"{folder}/out/{part}", kept)
+def proved(crate, jobs):
+    """Proves a library over those below it, which are proved. Returns whether it is proved."""
+    return told(crate, ["lib", *jobs], f"{ROOT}/crates/{crate}") == 0
 
 
 def all_proved(below):
@@ -67,7 +51,7 @@ def all_proved(below):
             jobs = ["--jobs", str(max(1, lanes() // max(1, len(running) + len(ready))))]
             for crate in ready:
                 left.remove(crate)
-                running[pool.submit(proved, crate, below[crate], jobs)] = crate
+                running[pool.submit(proved, crate, jobs)] = crate
             ended, _ = concurrent.futures.wait(running, return_when=concurrent.futures.FIRST_COMPLETED)
             for it in ended:
                 crate = running.pop(it)

@@ -86,7 +86,8 @@ TOUR_WORDS = "zz\nzö\nza\n"
 
 
 def tour():
-    """Returns the session of the README's tour, as one of SESSIONS, and the texts of the table and the words that it is over.
+    """Returns the session of the README's tour, as one of SESSIONS, the texts of the table and the words that it is over, and what is run
+    behind it: words and what they write.
 
     What is typed stands behind a prompt, and begins with no digit, as the line of an entry that is shown does.
     """
@@ -94,7 +95,8 @@ def tour():
         text = readme.read()
     columns = text.partition("    mine.txt ")[2].partition("\n\n    $ ")[0].split("\n")[2:]
     table = "".join(f"{line[4:40].rstrip()}\n" for line in columns)
-    steps, shown = [], text.partition("In an edit (")[2].partition("\n\n")[2].partition("\n\n")[0]
+    shown, _, behind = text.partition("In an edit (")[2].partition("\n\n")[2].partition("\n\n")[0].partition("\n    > :quit\n")
+    steps = []
     for line in shown.split("\n"):
         typed = re.fullmatch(r" {4}(> |block> )(\D.*)", line)
         if typed and steps:
@@ -104,7 +106,9 @@ def tour():
         else:
             steps[-1][1] += f"{line[4:]}\n"
     steps[-1][1] += "> "
-    return (["edit", "mine.txt"], steps, ":quit\n", "", {}), {"mine.txt": table, "words.txt": TOUR_WORDS}
+    runs = re.findall(r"^ {4}\$ collbench (.*)\n((?: {4}[^$].*\n)*)", f"{behind}\n", re.M)
+    runs = [(words.split(), "".join(f"{line[4:]}\n" for line in reply.splitlines())) for words, reply in runs]
+    return (["edit", "mine.txt"], steps, ":quit\n", "", {}), {"mine.txt": table, "words.txt": TOUR_WORDS}, runs
 
 
 def read_screen(screen, wanted):
@@ -173,6 +177,14 @@ def run(program, session, folder):
     return True
 
 
+def writes(program, words, wanted, folder):
+    """Whether the program writes what is wanted to standard output, without a terminal."""
+    ran = subprocess.run([program, *words], cwd=folder, stdin=subprocess.DEVNULL, capture_output=True, encoding="utf-8", check=False)
+    if ran.stdout != wanted:
+        print(f"FAILED: {words} wrote {ran.stdout!r}{ran.stderr!r}, and not {wanted!r}", flush=True)
+    return ran.stdout == wanted
+
+
 def run_all(program):
     """Runs all sessions, and returns how many passed, and how many failed. Where the system has no pseudo-terminal, which is said, none is run."""
     try:
@@ -181,15 +193,15 @@ def run_all(program):
     except OSError as error:
         print(f"no edit at a terminal was run: {error}", flush=True)
         return 0, 0
-    passed, sessions = 0, [*((session, {"words.txt": WORDS}) for session in SESSIONS), tour()]
-    for session, texts in sessions:
+    passed, sessions = 0, [*((session, {"words.txt": WORDS}, []) for session in SESSIONS), tour()]
+    for session, texts, behind in sessions:
         with tempfile.TemporaryDirectory() as folder:
             for name in os.listdir(f"{ROOT}/examples"):
                 shutil.copy(f"{ROOT}/examples/{name}", folder)
             for name, text in texts.items():
                 with open(f"{folder}/{name}", "w", encoding="utf-8") as file:
                     file.write(text)
-            passed += run(program, session, folder)
+            passed += run(program, session, folder) and all(writes(program, *it, folder) for it in behind)
     return passed, len(sessions) - passed
 
 

@@ -1,4 +1,4 @@
-"""Scratch copies of the repository, in which crates are checked side by side."""
+"""Scratch copies of the repository, in which crates are checked side by side, and how many can be."""
 
 import os
 import re
@@ -7,8 +7,6 @@ import shutil
 from edits import PARTS
 from run_program import ROOT
 
-# What a check keeps in out/, beside what it builds of a program.
-KEPT = ("incremental", "rlib")
 # The most memory that a check is likely to take where little of it is new, in bytes.
 NEED = 3_000_000_000
 
@@ -31,32 +29,15 @@ def libraries():
     return {name: of(name) for name in sorted(listed, key=lambda it: len(of(it)))}
 
 
-def copied(room, crates=None, kept=()):
-    """Copies the repository, or some of its crates, with these parts of what its checks kept, which are linked, since they are only ever
-    replaced."""
-    crates = crates or list(libraries())
+def copied(room):
+    """Copies the repository, without what its checks kept."""
     os.makedirs(f"{room}/crates")
-    with open(f"{ROOT}/crates.txt", encoding="utf-8") as lines, open(f"{room}/crates.txt", "w", encoding="utf-8") as cut:
-        cut.writelines(line for line in lines if line.split(":")[0] in crates)
-    for crate in crates:
+    shutil.copy2(f"{ROOT}/crates.txt", f"{room}/crates.txt")
+    for crate in libraries():
         os.makedirs(f"{room}/crates/{crate}/out")
         for part in PARTS:
             if os.path.isdir(f"{ROOT}/crates/{crate}/{part}"):
                 shutil.copytree(f"{ROOT}/crates/{crate}/{part}", f"{room}/crates/{crate}/{part}")
-        for part in kept:
-            if os.path.isdir(f"{ROOT}/crates/{crate}/out/{part}"):
-                shutil.copytree(f"{ROOT}/crates/{crate}/out/{part}", f"{room}/crates/{crate}/out/{part}", copy_function=linked)
-
-
-def linked(from_, to):
-    """Links a file, or copies it where it can't be linked, or has to be one of its own."""
-    try:
-        if os.path.basename(from_) != "rattle-last-used":
-            os.link(from_, to)
-            return
-    except OSError:
-        pass
-    shutil.copy2(from_, to)
 
 
 def lanes():
