@@ -239,6 +239,11 @@ def pairs(lines):
     return found
 
 
+def listed(blocks, title):
+    """Returns the pairs below a title of help; none where it has no such title."""
+    return next((pairs(block[1:]) for block in blocks if block[0] == title), [])
+
+
 def help_of(program, name):
     """Returns what help says of a subcommand: its sentence, its usage, its operands, its other texts, and pairs of lines and meanings."""
     sentence, usage, operands, others, meanings = "", "", [], [], []
@@ -275,9 +280,9 @@ def subcommand(program, name, sections, page):
     yield compared(f"the sentence of {name}", texts(parts)[:1], [sentence])
     yield compared(f"the operands of {name}", own[: len(operands)], operands)
     if name == "edit":
-        listed = {term.split()[0].rstrip(","): text for term, text in items(parts_in(sections, "EDITING"))}
+        lines = {term.split()[0].rstrip(","): text for term, text in items(parts_in(sections, "EDITING"))}
         own, meanings = [], [(term.split()[0].rstrip(","), text) for term, text in meanings]
-        yield compared("the lines of edit", {term: listed.get(term) for term, _ in meanings}, dict(meanings))
+        yield compared("the lines of edit", {term: lines.get(term) for term, _ in meanings}, dict(meanings))
     else:
         yield compared(f"the lines of {name}", own[len(operands) :], meanings)
     yield compared(f"what help says besides of {name}", [other for other in others if plain(other) not in page], [])
@@ -287,10 +292,9 @@ def help_compared(program, sections):
     """Compares collbench.1 with the program's help."""
     page = " ".join(text for _, _, parts in sections for text in texts(parts))
     blocks = helped(program)
-    commands = pairs(next(block for block in blocks if block[0] == "Commands:")[1:])
-    options = pairs(next(block for block in blocks if block[0] == "Options:")[1:])
-    described = re.search(r"^\.Nd (.*)", text_of(f"{MAN}/{PAGES[0]}"), re.M)[1]
-    yield compared("the description", described, blocks[0][0][0].lower() + blocks[0][0][1:])
+    commands, options = listed(blocks, "Commands:"), listed(blocks, "Options:")
+    described = re.findall(r"^\.Nd (.*)", text_of(f"{MAN}/{PAGES[0]}"), re.M)
+    yield compared("the description", described, [blocks[0][0][:1].lower() + blocks[0][0][1:]])
     yield compared("the option", items(parts_in(sections, "DESCRIPTION")), [(option, f"{text}.") for option, text in options])
     names = [name for name, _ in below(sections, "SUBCOMMANDS")]
     yield compared("the subcommands", names, [name for name, _ in commands])
@@ -319,8 +323,8 @@ def lists_compared(pages):
         wanted = [tuple(row[:2]) for row in rows(section, number)]
         yield compared(f"{page}: the list of {title!r}", items(parts_in(pages[page], title)), wanted)
     limits = [(what, f"{bounds} ({fault})") for what, bounds, fault in rows("Limits", 0)]
-    listed = [limit for page in PAGES for limit in items(parts_in(pages[page], "LIMITS"))]
-    yield compared("the limits of the pages", sorted(listed), sorted(limits))
+    found = [limit for page in PAGES for limit in items(parts_in(pages[page], "LIMITS"))]
+    yield compared("the limits of the pages", sorted(found), sorted(limits))
 
 
 def sentences(text):
