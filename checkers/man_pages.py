@@ -16,6 +16,7 @@ The pages are read by the few macros of mdoc that they use.
 The last line is 'N passed, M failed', where a run is one subcommand, one list, one paragraph, one display, or one page looked at.
 """
 
+import itertools
 import os
 import re
 import shlex
@@ -43,6 +44,8 @@ ESCAPES = {"-": "-", "e": "\\", "&": "", " ": " ", "(aq": "'", "(dq": '"', "(ga"
 FORMS = {"Ar", "Cm", "Em", "Ic", "Li", "No", "Pa", "Ql", "Sx"}
 ENCLOSING = {"Op": "[]", "Pq": "()", "Dq": "“”"}
 MACROS = FORMS | set(ENCLOSING) | {"Fl", "Nm", "Ns", "Pf", "Xr"}
+# A sign that is glued to what stands before it, where it is a word of a macro line.
+CLOSING = re.compile(r"[.,:;)\]?!]")
 MARK = "\x1e"
 
 
@@ -84,39 +87,31 @@ class Spoken:
             self.add(word)
         self.glued = True
 
-    def close(self, sign):
-        """Adds a sign that is glued to what stands before it."""
-        self.text += sign
-
 
 def spoken(words):
-    """Returns the plain text of the words of a macro line."""
-    said, open_signs, words = Spoken(), [], list(words)
-    trailing = []
-    while words and re.fullmatch(r"[.,:;)\]?!]", words[-1]):
-        trailing.insert(0, words.pop())
-    while words:
-        word = words.pop(0)
+    """Returns the plain text of the words of a macro line. Signs at its end stand behind what it encloses."""
+    trailing = "".join(itertools.takewhile(CLOSING.fullmatch, reversed(words)))[::-1]
+    said, ends = Spoken(), ""
+    rest = iter(words[: len(words) - len(trailing)])
+    for word in rest:
         if word in ENCLOSING:
             said.glue(ENCLOSING[word][0])
-            open_signs.insert(0, ENCLOSING[word][1])
+            ends = ENCLOSING[word][1] + ends
         elif word == "Fl":
             said.before += "-"
         elif word == "Xr":
-            said.add(f"{words.pop(0)}({words.pop(0)})")
+            said.add(f"{next(rest)}({next(rest)})")
         elif word == "Nm":
             said.add("collbench")
         elif word == "Ns":
             said.glue()
         elif word == "Pf":
-            said.glue(unescaped(words.pop(0)))
-        elif re.fullmatch(r"[.,:;)\]?!]", word):
-            said.close(word)
+            said.glue(unescaped(next(rest)))
+        elif CLOSING.fullmatch(word):
+            said.text += word
         elif word not in FORMS:
             said.add(unescaped(word))
-    for sign in [*open_signs, *trailing]:
-        said.close(sign)
-    return said.text
+    return said.text + ends + trailing
 
 
 def sections_of(page):
