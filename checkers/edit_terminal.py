@@ -196,8 +196,7 @@ def run_all(program):
     passed, sessions = 0, [*((session, {"words.txt": WORDS}, []) for session in SESSIONS), tour()]
     for session, texts, behind in sessions:
         with tempfile.TemporaryDirectory() as folder:
-            for name in os.listdir(f"{ROOT}/examples"):
-                shutil.copy(f"{ROOT}/examples/{name}", folder)
+            shutil.copytree(f"{ROOT}/examples", folder, dirs_exist_ok=True)
             for name, text in texts.items():
                 with open(f"{folder}/{name}", "w", encoding="utf-8") as file:
                     file.write(text)

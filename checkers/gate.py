@@ -1,9 +1,9 @@
 #!/usr/bin/env python3
 """The merge gate: whether each edit of crates/*/more-edits/ can still be applied, whether the code tells of each fault what is
 documented, `rt ci`, and then the runs of the programs that it built, withdrawals from random histories, explanations of pairs,
-reviews of random delta files, imports of random ranges, lints of damaged texts, edits at a terminal and lists of words in edits among
-them, and whether the version that is told is that of the changelog and of the kit. What the prover says of those edits, `make edits`
-tells.
+reviews of random delta files, imports of random ranges, lints of damaged texts, edits at a terminal, lists of words in edits, the
+commands of the tutorial and the ways to install among them, and whether the version that is told is that of the changelog and of the
+kit. What the prover says of those edits, `make edits` tells.
 
 usage: checkers/gate.py
 
@@ -19,12 +19,14 @@ import damaged_texts
 import edit_terminal
 import edits
 import explained_pairs
+import installed_programs
 import listed_words
 import random_ranges
 import random_reviews
 import random_withdrawals
 import refuse_growths
 import run_program
+import tutorial
 
 
 def proofs_and_tests():
@@ -93,12 +95,16 @@ def main():
     print(f"edits at a terminal: {edited[0]} passed, {edited[1]} failed")
     listed = listed_words.run_all(run_program.PROGRAM)
     print(f"lists of words in edits: {listed[0]} passed, {listed[1]} failed")
+    taught = tutorial.run_all(run_program.PROGRAM)
+    print(f"commands of the tutorial: {taught[0]} passed, {taught[1]} failed")
+    installed = installed_programs.run_all(run_program.PROGRAM)
+    print(f"ways to install: {installed[0]} passed, {installed[1]} failed")
     refused = refuse_growths.run_all()
     print(f"runs with refused growths: {refused[0]} passed, {refused[1]} failed")
     told = version()
     print(f"version: {told[0]} passed, {told[1]} failed")
     proofs = (can_be_applied, advised, proved)
-    runs = (ran, withdrawn, explained, reviewed, spelled, damaged, edited, listed, refused, told)
+    runs = (ran, withdrawn, explained, reviewed, spelled, damaged, edited, listed, taught, installed, refused, told)
     passed, failed = (sum(counts) for counts in zip(*proofs, *runs))
     print(f"{passed} passed, {failed} failed")
     return 1 if failed or not ran[0] else 0

@@ -27,7 +27,7 @@ SECONDS = 120
 PAGES = "share/doc/collbench"
 # What stands there in any case, beside what share/ and examples/ have.
 LICENCES = ["LICENSE-MIT", "LICENSE-APACHE"]
-FOR_USERS = ["README.md", "docs/LANGUAGE.md", "docs/IMPORT.md", "docs/GUARANTEES.md", "docs/DEFINITIONS.md"]
+FOR_USERS = ["README.md", "docs/TUTORIAL.md", "docs/LANGUAGE.md", "docs/IMPORT.md", "docs/GUARANTEES.md", "docs/DEFINITIONS.md"]
 FOR_WRITERS = ["docs/ARCHITECTURE.md", "docs/PROVING.md", "docs/PERF.md", "CONTRIBUTING.md"]
 
 

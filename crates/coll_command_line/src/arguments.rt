@@ -8,7 +8,7 @@ ghost use Rattle.coll_command_line.specs.CommandLine.{table_and_words, table_wor
 ghost use Rattle.coll_command_line.specs.CommandLine.{wanted, with_each};
 ghost use Rattle.coll_command_line.specs.Tasks.{subcommand_name};
 
-use crate::help::{COPIES, EDITED, EXAMPLES, EXPLAINED, LINES, LINTED, TOLD};
+use crate::help::{ASKED, COPIES, EDITED, EXAMPLES, EXPLAINED, LINES, LINTED, TOLD};
 use crate::subcommands::{SUBCOMMANDS, Subcommand};
 use clap::{Arg, Command};
 use std::alloc::{AllocError, Global};
@@ -94,8 +94,10 @@ fn taking<'a>(alloc: Global, subcommand: Subcommand) -> Result<Command<'a>, Allo
                 .before_help(COPIES)
                 .arg(deltas(alloc))
         }
-        Subcommand::Key => over_table(alloc, subcommand)?.arg(texts(alloc)),
-        Subcommand::Compare => over_two_texts(alloc, subcommand),
+        Subcommand::Key => over_table(alloc, subcommand)?
+            .after_help(ASKED)
+            .arg(texts(alloc)),
+        Subcommand::Compare => Ok(over_two_texts(alloc, subcommand)?.after_help(ASKED)),
         Subcommand::Explain => Ok(over_two_texts(alloc, subcommand)?.after_help(EXPLAINED)),
         Subcommand::Review => over_words(alloc, subcommand),
         Subcommand::Lint => over_one_delta(alloc, subcommand),

@@ -5,6 +5,10 @@
 pub(crate) const COPIES: &str =
     "A source with `copy` goes through `collbench import-delta` first: in a delta file `copy` has no effect.";
 
+/// What help says last of the subcommands that ask a table for keys and orders, and take no delta file.
+pub(crate) const ASKED: &str =
+    "For a table with its delta files: collbench print TABLE DELTA.. > both.txt";
+
 /// What help says last of the lines of an explanation.
 pub(crate) const EXPLAINED: &str = "Lines:
   A <U0061> ..          the elements of the first text, characters and collating elements
@@ -20,7 +24,9 @@ pub(crate) const EXPLAINED: &str = "Lines:
   gap 2 before <U002D>  under position, a number's position, which a key spells @2, and the element before which it stands, in the
                         direction of the level
   end                   the list of the text has ended there
-  less                  what compare says: less, equal or greater";
+  less                  what compare says: less, equal or greater
+
+For a table with its delta files: collbench print TABLE DELTA.. > both.txt";
 
 /// What help says last of the subcommand that reviews a delta file: what each line means.
 pub(crate) const TOLD: &str = "For each statement:
