@@ -171,8 +171,8 @@ def written(folder):
         if text is not None and name not in os.listdir(f"{ROOT}/examples"):
             with open(f"{folder}/{name}", "w", encoding="utf-8") as file:
                 file.write(text)
-    known = sorted({*TEXTS, *os.listdir(f"{ROOT}/examples")} - set(OTHERS))
-    return known, list(OTHERS)
+    examples = {entry.name for entry in os.scandir(f"{ROOT}/examples") if entry.is_file()}
+    return sorted({*TEXTS, *examples} - set(OTHERS)), list(OTHERS)
 
 
 def from_standard_input(text, folder):
