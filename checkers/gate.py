@@ -2,7 +2,7 @@
 """The merge gate: whether each edit of crates/*/more-edits/ can still be applied, whether the code tells of each fault what is
 documented, `rt ci`, and then the runs of the programs that it built, withdrawals from random histories, explanations of pairs,
 reviews of random delta files, imports of random ranges, lints of damaged texts, edits at a terminal, lists of words in edits, the
-commands of the tutorial and the ways to install among them, and whether the version that is told is that of the changelog and of the
+commands of the tutorial, man pages, completions, colours of vim and the ways to install among them, and whether the version that is told is that of the changelog and of the
 kit. What the prover says of those edits, `make edits` tells.
 
 usage: checkers/gate.py
@@ -15,18 +15,21 @@ import subprocess
 import sys
 
 import advice_of_faults
+import completions
 import damaged_texts
 import edit_terminal
 import edits
 import explained_pairs
 import installed_programs
 import listed_words
+import man_pages
 import random_ranges
 import random_reviews
 import random_withdrawals
 import refuse_growths
 import run_program
 import tutorial
+import vim_syntax
 
 
 def proofs_and_tests():
@@ -73,41 +76,44 @@ def version():
     return 0, 1
 
 
+# What is tried before the proofs, and what is run behind them, each with what it counts.
+BEFORE = [
+    ("edits that can be applied", edits.run_all),
+    ("faults told as they are documented", advice_of_faults.run_all),
+]
+BEHIND = [
+    ("runs of the program", lambda: run_program.run_all(run_program.PROGRAM)),
+    ("withdrawals from random histories", lambda: random_withdrawals.run_all(run_program.PROGRAM)),
+    ("explanations of pairs of words", lambda: explained_pairs.run_all(run_program.PROGRAM)),
+    ("reviews of random delta files", lambda: random_reviews.run_all(run_program.PROGRAM)),
+    ("imports of random ranges", lambda: random_ranges.run_all(run_program.PROGRAM)),
+    ("lints of damaged texts", lambda: damaged_texts.run_all(run_program.PROGRAM)),
+    ("edits at a terminal", lambda: edit_terminal.run_all(run_program.PROGRAM)),
+    ("lists of words in edits", lambda: listed_words.run_all(run_program.PROGRAM)),
+    ("commands of the tutorial", lambda: tutorial.run_all(run_program.PROGRAM)),
+    ("man pages", lambda: man_pages.run_all(run_program.PROGRAM)),
+    ("completions of command lines", lambda: completions.run_all(run_program.PROGRAM)),
+    ("texts coloured by vim", vim_syntax.run_all),
+    ("ways to install", lambda: installed_programs.run_all(run_program.PROGRAM)),
+    ("runs with refused growths", refuse_growths.run_all),
+    ("version", version),
+]
+
+
+def counted(what, run):
+    """Runs what is counted, and says and returns how many passed, and how many failed."""
+    passed, failed = run()
+    print(f"{what}: {passed} passed, {failed} failed", flush=True)
+    return passed, failed
+
+
 def main():
-    can_be_applied = edits.run_all()
-    print(f"edits that can be applied: {can_be_applied[0]} passed, {can_be_applied[1]} failed", flush=True)
-    advised = advice_of_faults.run_all()
-    print(f"faults told as they are documented: {advised[0]} passed, {advised[1]} failed", flush=True)
+    before = [counted(what, run) for what, run in BEFORE]
     proved = proofs_and_tests()
-    ran = run_program.run_all(run_program.PROGRAM)
-    print(f"runs of the program: {ran[0]} passed, {ran[1]} failed")
-    withdrawn = random_withdrawals.run_all(run_program.PROGRAM)
-    print(f"withdrawals from random histories: {withdrawn[0]} passed, {withdrawn[1]} failed")
-    explained = explained_pairs.run_all(run_program.PROGRAM)
-    print(f"explanations of pairs of words: {explained[0]} passed, {explained[1]} failed")
-    reviewed = random_reviews.run_all(run_program.PROGRAM)
-    print(f"reviews of random delta files: {reviewed[0]} passed, {reviewed[1]} failed")
-    spelled = random_ranges.run_all(run_program.PROGRAM)
-    print(f"imports of random ranges: {spelled[0]} passed, {spelled[1]} failed")
-    damaged = damaged_texts.run_all(run_program.PROGRAM)
-    print(f"lints of damaged texts: {damaged[0]} passed, {damaged[1]} failed")
-    edited = edit_terminal.run_all(run_program.PROGRAM)
-    print(f"edits at a terminal: {edited[0]} passed, {edited[1]} failed")
-    listed = listed_words.run_all(run_program.PROGRAM)
-    print(f"lists of words in edits: {listed[0]} passed, {listed[1]} failed")
-    taught = tutorial.run_all(run_program.PROGRAM)
-    print(f"commands of the tutorial: {taught[0]} passed, {taught[1]} failed")
-    installed = installed_programs.run_all(run_program.PROGRAM)
-    print(f"ways to install: {installed[0]} passed, {installed[1]} failed")
-    refused = refuse_growths.run_all()
-    print(f"runs with refused growths: {refused[0]} passed, {refused[1]} failed")
-    told = version()
-    print(f"version: {told[0]} passed, {told[1]} failed")
-    proofs = (can_be_applied, advised, proved)
-    runs = (ran, withdrawn, explained, reviewed, spelled, damaged, edited, listed, taught, installed, refused, told)
-    passed, failed = (sum(counts) for counts in zip(*proofs, *runs))
+    behind = [counted(what, run) for what, run in BEHIND]
+    passed, failed = (sum(counts) for counts in zip(*before, proved, *behind))
     print(f"{passed} passed, {failed} failed")
-    return 1 if failed or not ran[0] else 0
+    return 1 if failed or not behind[0][0] else 0
 
 
 if __name__ == "__main__":
