@@ -1,12 +1,11 @@
 #!/usr/bin/env python3
-"""Proves and builds the program, crates side by side where none of them stands on the other, and says how far it is. What is not proved
+"""Proves and builds the program, crate by crate from the lowest, each with a job for each core, and says how far it is. What is not proved
 is printed as it comes. Where it was broken off, it goes on with what was proved. Once the program is built it is run for its help, which is
 not shown.
 
 usage: checkers/build_program.py
 """
 
-import concurrent.futures
 import re
 import subprocess
 import sys
@@ -37,35 +36,19 @@ def told(crate, words, folder):
     return build.returncode
 
 
-def proved(crate, jobs):
-    """Proves a library over those below it, which are proved. Returns whether it is proved."""
-    return told(crate, ["lib", *jobs], f"{ROOT}/crates/{crate}") == 0
-
-
-def all_proved(below):
-    """Proves the libraries below the program, each once those below it are proved, and says how many are. Returns whether all are."""
-    left, done, running = list(below[TOP]), [], {}
-    with concurrent.futures.ThreadPoolExecutor(lanes()) as pool:
-        while left or running:
-            ready = [it for it in left if set(below[it]) <= set(done)]
-            jobs = ["--jobs", str(max(1, lanes() // max(1, len(running) + len(ready))))]
-            for crate in ready:
-                left.remove(crate)
-                running[pool.submit(proved, crate, jobs)] = crate
-            ended, _ = concurrent.futures.wait(running, return_when=concurrent.futures.FIRST_COMPLETED)
-            for it in ended:
-                crate = running.pop(it)
-                if not it.result():
-                    return False
-                done.append(crate)
-                print(f"{crate}: proved, {len(done)} of {len(below[TOP]) + 1} crates", flush=True)
+def all_proved(libraries_below):
+    """Proves the libraries below the program, lowest first, and says how many are. Returns whether all are."""
+    for done, crate in enumerate(libraries_below, 1):
+        if told(crate, ["lib", "--jobs", str(lanes())], f"{ROOT}/crates/{crate}"):
+            return False
+        print(f"{crate}: proved, {done} of {len(libraries_below) + 1} crates", flush=True)
     return True
 
 
 def main():
-    print("Proving and building the program: ten minutes or more from nothing, and less after a change.", flush=True)
+    print("Proving and building the program: half an hour or more from nothing, and less after a change.", flush=True)
     try:
-        built = all_proved(libraries()) and told(TOP, ["run", "--", "--help"], f"{ROOT}/crates/{TOP}") == 0
+        built = all_proved(libraries()[TOP]) and told(TOP, ["run", "--", "--help"], f"{ROOT}/crates/{TOP}") == 0
     except KeyboardInterrupt:
         print("Broken off. The next run goes on with what is proved by now.")
         return 1
