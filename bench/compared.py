@@ -9,9 +9,10 @@ they take, and without either both are printed. A ROW is the name of a feature: 
 command runs in a folder of tables, locales and words that are made first, where `L` is the folder of glibc's sources, `under NAME`
 runs a program under a compiled locale, `uc` is Perl with Unicode::Collate::Locale, and `peers` is ICU, by peers.c.
 
-It needs Debian's packages locales, time, wswedish, libicu-dev and icu-devtools, a C compiler, perl and python3. What isn't there is
-left out, and told. Each command has to print what stands below it in compared.txt, or the cell of the table says so; and where the page has
-another row, that is told. So the last line of the features is 'N passed, M failed', and the status is 1 where one failed.
+It needs Debian's packages locales, time and wswedish. Where libicu-dev with icu-devtools and a C compiler, or perl, isn't there, what
+needs it is left out, and that is told. Each command has to print what stands below it in compared.txt, or the cell of the table says
+so; and where the page has another row, that is told. The line behind the features is 'N passed, M failed', and the status is 1 where
+one failed.
 
 Times are medians of five, by turns: processor time, user's and system's, of each whole process, or of one of many that a process did;
 those of keys and comparisons are told by the program that makes them. Behind a time stands the most memory that a process held.
@@ -246,6 +247,8 @@ def features(room):
         answers = [answer(room, peer, cells[peer], counts) for peer in PEERS]
         line = f"| {feature} | {' | '.join(answers)} | `{name}` |"
         print(line, flush=True)
+        if any(room.lacking.values()):
+            continue
         counts[line in page] += 1
         if line not in page:
             print(f"FAILED: {PAGE} has another row {name}")
