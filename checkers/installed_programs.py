@@ -27,8 +27,7 @@ SECONDS = 120
 PAGES = "share/doc/collbench"
 # What stands there in any case, beside what share/ and examples/ have.
 LICENCES = ["LICENSE-MIT", "LICENSE-APACHE"]
-FOR_USERS = ["README.md", "docs/TUTORIAL.md", "docs/LANGUAGE.md", "docs/IMPORT.md", "docs/GUARANTEES.md", "docs/DEFINITIONS.md"]
-FOR_WRITERS = ["docs/ARCHITECTURE.md", "docs/PROVING.md", "docs/PERF.md", "CONTRIBUTING.md"]
+TEXTS = ["README.md", "CHANGELOG.md", "CONTRIBUTING.md", "bench/README.md"]
 
 
 def ran(words, folder, **how):
@@ -70,7 +69,7 @@ def known(folder):
 def wanted(program):
     """What has to stand below a prefix."""
     files = {name: content(ROOT, name) for name in known("share")}
-    files |= {f"{PAGES}/{name}": content(ROOT, name) for name in [*FOR_USERS, *LICENCES, "CHANGELOG.md", *known("examples")]}
+    files |= {f"{PAGES}/{name}": content(ROOT, name) for name in [*TEXTS, *LICENCES, *known("docs"), *known("examples")]}
     return {**files, "bin/collbench": content(program)}
 
 
@@ -96,7 +95,6 @@ def faults(prefix, files):
             yield f"{name} is not there"
         elif (gzip.decompress(there) if name.endswith(".gz") else there) != data:
             yield f"{name} is another one"
-    yield from (f"{name} is there" for name in FOR_WRITERS if f"{PAGES}/{name}" in found)
     if not session_is_as_told(prefix):
         yield "the first session has other replies than those of tests/runs"
 

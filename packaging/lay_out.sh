@@ -3,7 +3,7 @@
 #
 # usage: packaging/lay_out.sh PROGRAM FOLDER
 #
-# PROGRAM, the proved one, goes to bin/collbench, and share/ goes where it stands. The examples, the licences and the pages for users go to
+# PROGRAM, the proved one, goes to bin/collbench, and share/ goes where it stands. The examples, the licences and the pages go to
 # share/doc/collbench, where the links among them lead to one another. Where git tells which files it knows, only these are taken, so what
 # was tried out beside the examples stays behind.
 set -eu
@@ -33,9 +33,8 @@ put() {
 }
 
 put "$program" bin/collbench
-files share README.md CHANGELOG.md LICENSE-MIT LICENSE-APACHE docs examples | while IFS= read -r file; do
+files share README.md CHANGELOG.md CONTRIBUTING.md LICENSE-MIT LICENSE-APACHE docs bench/README.md examples | while IFS= read -r file; do
     case $file in
-    docs/ARCHITECTURE.md | docs/PERF.md | docs/PROVING.md) ;; # for whoever changes collbench
     share/*) put "$top/$file" "$file" ;;
     *) put "$top/$file" "share/doc/collbench/$file" ;;
     esac
