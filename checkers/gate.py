@@ -1,9 +1,9 @@
 #!/usr/bin/env python3
-"""The merge gate: whether each edit of crates/*/more-edits/ can still be applied, whether the code tells of each fault what is
-documented, `rt ci`, and then the runs of the programs that it built, withdrawals from random histories, explanations of pairs,
-reviews of random delta files, imports of random ranges, lints of damaged texts, edits at a terminal, lists of words in edits, the
-commands of the tutorial, man pages, completions, colours of vim and the ways to install among them, and whether the version that is told is that of the changelog and of the
-kit. What the prover says of those edits, `make edits` tells.
+"""The merge gate: whether each edit of crates/*/more-edits/ can still be applied, whether the code tells of each fault what is documented,
+`rt ci`, and then the runs of the programs that it built, withdrawals from random histories, explanations of pairs, reviews of random
+delta files, imports of random ranges, lints of damaged texts, edits at a terminal, lists of words in edits, the commands of the
+tutorial, man pages, completions, colours of vim and the ways to install among them, and whether the version that is told is that of the
+changelog and of the kit. What the prover says of those edits, `make edits` tells.
 
 usage: checkers/gate.py
 
