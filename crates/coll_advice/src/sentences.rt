@@ -241,7 +241,10 @@ fn session_advice(number: u8) -> Option<Advice>
             "OutOfMemory",
             "free memory, and make the line again; what it asks for changed nothing",
         ),
-        71 => row("StillNeeded", "the statement that is named needs it: withdraw that one before"),
+        71 => row(
+            "StillNeeded",
+            "the statement that is named needs it: withdraw that one before",
+        ),
         72 => row("NoSuchStatement", "look for the number with :history"),
         73 => row(
             "NotASymbol",
