@@ -105,7 +105,7 @@ fn grammar_advice(number: u8) -> Option<Advice>
         21 => row("MissingOperand", "write what is missing"),
         22 => row(
             "ExtraOperand",
-            "take the rest of the line away; several names of a weight stand in quotes, and % is no comment without comment_char %",
+            "take the rest of the line away; between operands of weights stand semicolons, and no range (..)",
         ),
         23 => row(
             "BadRule",
@@ -127,7 +127,7 @@ fn grammar_advice(number: u8) -> Option<Advice>
         ),
         29 => row(
             "BadOperand",
-            "compare with how the line is spelled; a range (..) has to be written out, and % is no comment without comment_char %",
+            "compare with how the line is spelled; a range (..) has to be written out",
         ),
         _ => None,
     }
@@ -241,10 +241,7 @@ fn session_advice(number: u8) -> Option<Advice>
             "OutOfMemory",
             "free memory, and make the line again; what it asks for changed nothing",
         ),
-        71 => row(
-            "StillNeeded",
-            "the statement that is named needs it: withdraw that one before",
-        ),
+        71 => row("StillNeeded", "withdraw the statement that it names first"),
         72 => row("NoSuchStatement", "look for the number with :history"),
         73 => row(
             "NotASymbol",
