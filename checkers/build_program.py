@@ -46,7 +46,7 @@ def all_proved(libraries_below):
 
 
 def main():
-    print("Proving and building the program: an hour from nothing on four cores, and less after a change.", flush=True)
+    print("Proving and building the program: one to two hours from nothing, and less after a change.", flush=True)
     try:
         built = all_proved(libraries()[TOP]) and told(TOP, ["run", "--", "--help"], f"{ROOT}/crates/{TOP}") == 0
     except KeyboardInterrupt:

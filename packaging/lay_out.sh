@@ -15,7 +15,7 @@ folder=$2
 if [ ! -x "$program" ]; then
     cat >&2 << END
 There is no proved program, $program, so nothing is done.
-'make' proves and builds it: at first in an hour on four cores, and once broken off it goes on with what was proved.
+'make' proves and builds it: at first in one to two hours, and once broken off it goes on with what was proved.
 END
     exit 1
 fi
