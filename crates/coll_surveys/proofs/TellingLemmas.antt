@@ -4,15 +4,15 @@ use Rattle.std.specs.List.{flat_map}
 use Rattle.std.specs.Prelude.{OnOk}
 use Rattle.std.proofs.lemmas.Grind.{flat_map-append}
 use Rattle.std.proofs.lemmas.List.{map-append, take_all, take_more}
+use Rattle.coll_syntax.specs.declared.lines.TableLine.{TableLine}
 use Rattle.coll_syntax.specs.declared.statements.Statement.{Statement}
 use Rattle.coll_nodes.specs.Table.{Collation}
 use Rattle.coll_nodes.specs.TableLayout.{TableValue, collation}
-use Rattle.coll_texts.specs.BuilderStates.{Numbered, line_fault}
-use Rattle.coll_texts.specs.declared.load_faults.LoadFault.{LoadFault}
+use Rattle.coll_texts.specs.BuilderStates.{BuilderState, line_fault}
 use Rattle.coll_advice.specs.declared.found.Found.{Found}
 use Rattle.coll_bench.specs.declared.faults.Fault.TheVariants as fault
 use Rattle.coll_surveys.specs.DeltaSurveys.{alone_faults, block_faults, block_left, category_faults, faults_told, open_faults, passed_faults, statement_faults, table_left}
-use Rattle.coll_surveys.specs.TableSurveys.{TellsAgain, load_fault, load_faults, told_of_table}
+use Rattle.coll_surveys.specs.TableSurveys.{bare_line, judged_faults, judging, line_faults, load_faults, outside_faults, told_of_table}
 use Rattle.coll_surveys.specs.ToldFaults.{AreAmong, LineFault, Tells, at_line, told_fault}
 use Rattle.coll_surveys.specs.declared.delta_surveys.DeltaSurvey.{DeltaSurvey}
 use Rattle.coll_surveys.specs.declared.findings.FoundFault.{FoundFault}
@@ -100,16 +100,16 @@ told_more a b c f xs i x within is first one =
 pub told_all : (a b : List FoundFault) (f : Found → LineFault) (xs : List Found) (i : ℕ) → length xs ≤ i → Tells a b (map f (take i xs)) → Tells a b (map f xs)
 told_all a b f xs i past tells = subst (λ (l : List Found). Tells a b (map f l)) (take_all i xs past) tells
 
--- these are told, and of more none
-pub told_first : (a b : List FoundFault) (given later : List LineFault) → Tells a b given → Tells a b (given ++ later)
-told_first a b given later tells = told_on a b b given later tells (told_none b b later refl)
-
--- what a line has in an order that is opened for it is told behind its fault
-pub told_again : {T E : Type 0} (old mid new : TableSurvey) (f : LoadFault) (bare : Numbered) (r : Result T E) → Tells (told_of_table old) (told_of_table mid) (load_fault f ∷ [])
-    → OnOk r (TellsAgain mid new [] bare) → OnOk r (TellsAgain old new (load_fault f ∷ []) bare)
-told_again old mid new f bare (Ok x) first (opened, more) =
-    (opened, told_on (told_of_table old) (told_of_table mid) (told_of_table new) (load_fault f ∷ []) (load_faults (line_fault opened bare)) first more)
-told_again old mid new f bare (Err e) first again = tt
+-- a line of a table: what is told of where it stands, and then what judging it gives
+pub line_told : {T E : Type 0} (old mid new : TableSurvey) (number : ℕ) (read bare : TableLine) (r : Result T E) → Tells (told_of_table old) (told_of_table mid) (outside_faults old.standing number read)
+    → mid.builder ≡ judging old.builder old.standing read → bare ≡ bare_line read
+    → OnOk r (Tells (told_of_table mid) (told_of_table new) (load_faults (line_fault mid.builder (record { number = number; line = bare }))))
+    → OnOk r (Tells (told_of_table old) (told_of_table new) (line_faults old.builder old.standing number read))
+line_told old mid new number read bare (Ok x) first judges is second =
+    told_on (told_of_table old) (told_of_table mid) (told_of_table new) (outside_faults old.standing number read) (judged_faults (judging old.builder old.standing read) number read) first
+    (subst (λ (b : BuilderState). Tells (told_of_table mid) (told_of_table new) (judged_faults b number read)) judges
+    (subst (λ (l : TableLine). Tells (told_of_table mid) (told_of_table new) (load_faults (line_fault mid.builder (record { number = number; line = l })))) is second))
+line_told old mid new number read bare (Err e) first judges is second = tt
 
 -- what one more of a list has is told behind what those before it have
 pub each_told : {T : Type 0} (a b c : List FoundFault) (f : T → List LineFault) (xs : List T) (i : ℕ) (x : T) → i < length xs → x ≡ get_or xs i x → Tells a b (flat_map f (take i xs))

@@ -8,7 +8,7 @@
 //!   kinds;
 //! - `collecting`: what is told, as it is gathered; `line_surveys`: the lines of a text, handed on one after another; `subjects`: what
 //!   a fault is about; `unplaced`: what is declared and never placed;
-//! - `table_surveys`, with `table_weights`: a table, line by line (`TableSurveys`, `TableWeights`); `accepted_tables`: one without fault;
+//! - `table_surveys`, with `standings` and `table_weights`: a table, line by line (`TableSurveys`, `TableWeights`); `accepted_tables`: one without fault;
 //! - `delta_surveys`, with `open_blocks` and `unchanged`: a delta file, statement by statement (`DeltaSurveys`).
 #![tactic(auto)]
 
@@ -19,6 +19,7 @@ mod findings;
 mod foreign_words;
 mod line_surveys;
 mod open_blocks;
+mod standings;
 mod subjects;
 mod table_surveys;
 mod table_weights;

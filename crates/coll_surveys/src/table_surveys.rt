@@ -4,22 +4,24 @@
 //! weights name is looked up behind that, in the table that all lines give (`table_weights`). Where the text doesn't end its order or
 //! its category, or gives no rules, the builder is ended here.
 
-ghost use Rattle.std.specs.Prelude.{◌≡◌, ◌≢◌, ◌∷◌, [], Ok, true, IfErr, IfOk, OnOk};
+ghost use Rattle.std.specs.Prelude.{◌≡◌, ◌≢◌, ◌∷◌, [], true, if◌then◌else◌, Err, IfOk, OnOk};
 ghost use Rattle.coll_lex.specs.Names.{AreTokens};
 ghost use Rattle.coll_nodes.specs.WellFormed.{IsWellFormed};
 ghost use Rattle.coll_syntax.specs.Proper.{IsProperTableLine};
-ghost use Rattle.coll_syntax.specs.TableLines.{table_line};
 ghost use Rattle.coll_texts.specs.BuilderStates.{line_fault, table_of};
 ghost use Rattle.coll_texts.specs.LoadFaults.{early_fault, lex_cause};
+ghost use Rattle.coll_texts.specs.Loading.{state_with};
 ghost use Rattle.coll_texts.specs.declared.load_faults.LoadCause.TheVariants as cause;
 ghost use Rattle.coll_texts.specs.declared.load_faults.LoadCause.TheVariants.{OutOfMemory};
 ghost use Rattle.coll_surveys.specs.ToldFaults.{Tells};
-ghost use Rattle.coll_surveys.specs.TableSurveys.{IsBareOf, IsLeftBy, TellsAgain, TellsLine, TellsOfLine, TellsRefused};
-ghost use Rattle.coll_surveys.specs.TableSurveys.{answered_faults, bare_line, judged_faults, load_fault, load_faults, told_of_table};
+ghost use Rattle.coll_surveys.specs.TableSurveys.{IsLeftBy, IsLeftJudged, bare_line, begins_order, closed_by, faults_of_line, judging};
+ghost use Rattle.coll_surveys.specs.TableSurveys.{line_faults, load_fault, load_faults, opened_by, outside_faults, standing_after};
+ghost use Rattle.coll_surveys.specs.TableSurveys.{standing_behind, standing_behind_start, standing_read, told_of_table};
 
 use crate::collecting::{Collected, Surveyed};
 use crate::findings::About;
 use crate::line_surveys::{Opening, TakesLines, survey_lines};
+use crate::standings::{Standing, ends_opened, is_in_order};
 use crate::subjects::{refused_subject, table_subject};
 use crate::table_weights::survey_weights;
 use crate::unplaced::{Declarations, DeclaredName};
@@ -40,8 +42,8 @@ struct TableSurvey {
     declarations: Declarations,
     // Whether an `order_start` was accepted, and so the rules are known.
     ruled: bool,
-    // Whether an order was opened here for a line that stood outside of one.
-    opened: bool,
+    // Where the next line stands.
+    standing: Standing,
 }
 
 // What was read of a table, beside what its lines give.
@@ -60,7 +62,7 @@ pub fn survey_table(alloc: Global, keys: HashKeys, text: &[u8]) -> Result<Survey
         told: Collected::new(alloc, keys, 0),
         declarations: Declarations::new(alloc, keys),
         ruled: false,
-        opened: false,
+        standing: Standing::Outside,
     };
     let taken = survey.take_all(text);
     let (builder, read) = survey.into_parts();
@@ -141,7 +143,7 @@ impl TableSurvey {
             told,
             declarations,
             ruled,
-            opened: _,
+            standing: _,
         } = self;
         (
             builder,
@@ -158,15 +160,20 @@ impl TableSurvey {
     fn tell_load(&mut self, fault: LoadFault, about: About) -> Result<(), AllocError>
         ensures told { OnOk result (Tells (told_of_table self.old) (told_of_table self.new) (load_fault fault ∷ [])) }
         ensures builder { self.new.builder ≡ self.old.builder }
+        ensures standing { self.new.standing ≡ self.old.standing }
     {
         self.told
             .tell(fault.line, fault.line, Fault::Load(fault), about)
     }
 
-    // Takes a line, and answers whether it ends the category. What is told of it is what judging it gives, but for its weights.
+    // Takes a line, and answers whether it ends the category. What is told of it is what judging it gives where it stands, but for its
+    // weights.
     fn take_line(&mut self, line: &Line) -> Result<bool, AllocError>
         requires { AreTokens line.now.tokens }
-        ensures { OnOk result (TellsOfLine self.old self.new line.now.number line.now.tokens) }
+        ensures told { OnOk result (Tells (told_of_table self.old) (told_of_table self.new)
+            (faults_of_line self.old.builder self.old.standing line.now.number line.now.tokens)) }
+        ensures standing { OnOk result (self.new.standing ≡ standing_behind self.old.standing line.now.tokens) }
+        ensures left { OnOk result (IsLeftBy self.old.builder self.new.builder self.old.standing line.now.number line.now.tokens) }
     {
         match parse_table_line(self.alloc, line) {
             Ok(read) => self.put(line, read),
@@ -180,13 +187,13 @@ impl TableSurvey {
 
     // Tells a line that the grammar refuses. One that would open an order opens one.
     fn refuse_line(&mut self, line: &Line, fault: SyntaxFault) -> Result<(), AllocError>
-        ensures { OnOk result (Tells (told_of_table self.old) (told_of_table self.new)
+        ensures told { OnOk result (Tells (told_of_table self.old) (told_of_table self.new)
             (load_fault (record { line = line.now.number; cause = cause.Syntax fault }) ∷ [])) }
+        ensures standing { OnOk result (self.new.standing ≡ standing_read self.old.standing (begins_order line.now.tokens) (Err fault)) }
+        ensures left { OnOk result (self.new.builder ≡ (if begins_order line.now.tokens then opened_by self.old.builder else self.old.builder)) }
     {
         let about = refused_subject(self.alloc, line, fault)?;
-        if begins_with_order_start(line) {
-            self.open();
-        }
+        self.pass_over(begins_with_order_start(line))?;
         let fault = LoadFault {
             line: line.number,
             cause: LoadCause::Syntax(fault),
@@ -194,10 +201,25 @@ impl TableSurvey {
         self.tell_load(fault, about)
     }
 
+    // Takes a line at fault by what it begins with: an `order_start` opens an order.
+    fn pass_over(&mut self, begins: bool) -> Result<(), AllocError>
+        ensures told { self.new.told ≡ self.old.told }
+        ensures standing { OnOk result (self.new.standing ≡ (if begins then standing_behind_start self.old.standing else self.old.standing)) }
+        ensures left { OnOk result (self.new.builder ≡ (if begins then opened_by self.old.builder else self.old.builder)) }
+    {
+        if !begins {
+            return Ok(());
+        }
+        self.standing = self.standing.behind_refused_start();
+        self.open()
+    }
+
     // Tells a line that the lexer refuses.
     fn refuse_lexed(&mut self, number: u32, fault: LexFault) -> Result<(), AllocError>
-        ensures { OnOk result (Tells (told_of_table self.old) (told_of_table self.new)
+        ensures told { OnOk result (Tells (told_of_table self.old) (told_of_table self.new)
             (load_fault (record { line = number; cause = lex_cause fault }) ∷ [])) }
+        ensures standing { self.new.standing ≡ self.old.standing }
+        ensures left { self.new.builder ≡ self.old.builder }
     {
         let fault = LoadFault {
             line: number,
@@ -210,8 +232,11 @@ impl TableSurvey {
     fn put(&mut self, line: &Line, read: TableLine) -> Result<bool, AllocError>
         requires tokens { AreTokens line.now.tokens }
         requires proper { IsProperTableLine read }
-        requires read { table_line line.now.tokens ≡ Ok read }
-        ensures { OnOk result (TellsLine self.old self.new line.now.number read) }
+        ensures told { OnOk result (Tells (told_of_table self.old) (told_of_table self.new)
+            (line_faults self.old.builder self.old.standing line.now.number read)) }
+        ensures standing { OnOk result (self.new.standing ≡ standing_after self.old.standing read) }
+        ensures left { OnOk result (IsLeftJudged (judging self.old.builder self.old.standing read) self.new.builder line.now.number
+            (bare_line read)) }
     {
         let starts = begins_order(&read);
         match self.prepare(line.number, &read) {
@@ -234,9 +259,10 @@ impl TableSurvey {
     ) -> Result<bool, AllocError>
         requires tokens { AreTokens line.now.tokens }
         requires proper { IsProperTableLine bare }
-        requires bare { IsBareOf line.now.tokens bare }
-        ensures { OnOk result (TellsAgain self.old self.new (load_faults (line_fault self.old.builder
-            (record { number = line.now.number; line = bare }))) (record { number = line.now.number; line = bare })) }
+        ensures told { OnOk result (Tells (told_of_table self.old) (told_of_table self.new)
+            (load_faults (line_fault self.old.builder (record { number = line.now.number; line = bare })))) }
+        ensures standing { self.new.standing ≡ self.old.standing }
+        ensures left { OnOk result (IsLeftJudged self.old.builder self.new.builder line.now.number bare) }
     {
         match self.builder.take(line.number, bare) {
             Ok(ended) => {
@@ -251,23 +277,59 @@ impl TableSurvey {
         }
     }
 
-    // Prepares to put a line to the builder, and answers the name that it declares.
+    // Prepares to put a line to the builder, and answers the name that it declares. The builder is then what judges the line.
     fn prepare(&mut self, number: u32, read: &TableLine) -> Result<Option<DeclaredName>, AllocError>
-        ensures left { IsLeftBy self.old self.new.builder }
-        ensures told { self.new.told.told.faults ≡ self.old.told.told.faults }
+        ensures told { OnOk result (Tells (told_of_table self.old) (told_of_table self.new)
+            (outside_faults self.old.standing number read.now)) }
+        ensures judging { OnOk result (self.new.builder ≡ judging self.old.builder self.old.standing read.now) }
+        ensures standing { OnOk result (self.new.standing ≡ standing_after self.old.standing read.now) }
     {
         if let TableLine::Script = read {
             self.told.warn(Warning::ScriptWithoutEffect, number, None)?;
         }
-        if begins_order(read) || ends_category(read) {
-            self.close_opened();
-        }
+        self.make_way(number, read)?;
+        self.standing = self.standing.behind(read);
         declared_name(read)
+    }
+
+    // Tells a line that stands outside of an order and is to stand in one, and opens one for it, so that those behind it aren't refused
+    // for want of one. An order like that is closed again before the text opens one, or ends, so that this isn't refused for it.
+    fn make_way(&mut self, number: u32, read: &TableLine) -> Result<(), AllocError>
+        ensures told { OnOk result (Tells (told_of_table self.old) (told_of_table self.new)
+            (outside_faults self.old.standing number read.now)) }
+        ensures judging { OnOk result (self.new.builder ≡ judging self.old.builder self.old.standing read.now) }
+        ensures standing { self.new.standing ≡ self.old.standing }
+    {
+        match self.standing {
+            Standing::Outside if is_in_order(read) => {
+                self.tell_outside(number, read)?;
+                self.open()
+            }
+            Standing::Opened if ends_opened(read) => self.close(),
+            _ => Ok(()),
+        }
+    }
+
+    // Tells a line that stands outside of an order.
+    fn tell_outside(&mut self, number: u32, read: &TableLine) -> Result<(), AllocError>
+        ensures told { OnOk result (Tells (told_of_table self.old) (told_of_table self.new)
+            (load_fault (record { line = number; cause = cause.OutsideOrder }) ∷ [])) }
+        ensures builder { self.new.builder ≡ self.old.builder }
+        ensures standing { self.new.standing ≡ self.old.standing }
+    {
+        let fault = LoadFault {
+            line: number,
+            cause: LoadCause::OutsideOrder,
+        };
+        let about = table_subject(read, fault.cause)?;
+        self.tell_load(fault, about)
     }
 
     // Notes what a line declares, if it declares a name.
     fn note(&mut self, number: u32, name: Option<DeclaredName>) -> Result<(), AllocError>
-        ensures { self.new.told ≡ self.old.told }
+        ensures told { self.new.told ≡ self.old.told }
+        ensures builder { self.new.builder ≡ self.old.builder }
+        ensures standing { self.new.standing ≡ self.old.standing }
     {
         match name {
             Some(name) => self.declarations.declare(number, name),
@@ -278,136 +340,69 @@ impl TableSurvey {
     // Tells a line that the builder refuses, and answers whether it ends the category. It is read once more for what it is about.
     fn refuse_read(&mut self, line: &Line, fault: LoadFault) -> Result<bool, AllocError>
         requires { AreTokens line.now.tokens }
-        ensures { OnOk result (TellsRefused self.old self.new fault line.now.number line.now.tokens) }
+        ensures memory { OnOk result (fault.cause ≢ OutOfMemory) }
+        ensures told { OnOk result (Tells (told_of_table self.old) (told_of_table self.new) (load_fault fault ∷ [])) }
+        ensures standing { self.new.standing ≡ self.old.standing }
     {
         if let LoadCause::OutOfMemory = fault.cause {
             return Err(AllocError);
         }
         match parse_table_line(self.alloc, line) {
-            Ok(read) => self.refuse_again(line.number, fault, read),
+            Ok(read) => {
+                let ends = self.tell_refused(fault, &read);
+                drop(read);
+                ends
+            }
             Err(_) => Err(AllocError),
         }
     }
 
-    // Tells a line that the builder refuses, and takes what it says nevertheless.
-    fn refuse_again(
-        &mut self,
-        number: u32,
-        fault: LoadFault,
-        read: TableLine,
-    ) -> Result<bool, AllocError>
-        requires { IsProperTableLine read }
-        ensures { OnOk result (TellsAgain self.old self.new (load_fault fault ∷ []) (record { number = number; line = bare_line read })) }
-    {
-        match self.tell_refused(fault, &read) {
-            Ok(()) if is_for_an_order(&read) => self.take_opened(number, fault.cause, read),
-            told => {
-                let ends = ends_category(&read);
-                drop(read);
-                told?;
-                Ok(ends)
-            }
-        }
-    }
-
-    // Tells a line that the builder refuses.
-    fn tell_refused(&mut self, fault: LoadFault, read: &TableLine) -> Result<(), AllocError>
-        ensures { OnOk result (Tells (told_of_table self.old) (told_of_table self.new) (load_fault fault ∷ [])) }
+    // Tells a line that the builder refuses, and answers whether it ends the category. One that would open an order opens one.
+    fn tell_refused(&mut self, fault: LoadFault, read: &TableLine) -> Result<bool, AllocError>
+        ensures told { OnOk result (Tells (told_of_table self.old) (told_of_table self.new) (load_fault fault ∷ [])) }
+        ensures standing { self.new.standing ≡ self.old.standing }
     {
         let about = table_subject(read, fault.cause)?;
-        self.tell_load(fault, about)
-    }
-
-    // Opens an order for a line that was refused, so that those behind it aren't refused for want of one, and puts a line to it that was
-    // refused for that alone.
-    fn take_opened(
-        &mut self,
-        number: u32,
-        cause: LoadCause,
-        read: TableLine,
-    ) -> Result<bool, AllocError>
-        requires { IsProperTableLine read }
-        ensures { OnOk result (TellsAgain self.old self.new [] (record { number = number; line = bare_line read })) }
-    {
-        self.open();
-        if let LoadCause::OutsideOrder = cause {
-            self.opened = true;
-            return self.take_outside(number, read);
+        if begins_order(read) {
+            self.open()?;
         }
-        drop(read);
-        Ok(false)
+        self.tell_load(fault, about)?;
+        Ok(ends_category(read))
     }
 
-    // Puts a line that stood outside of an order to the one that was opened for it.
-    fn take_outside(&mut self, number: u32, read: TableLine) -> Result<bool, AllocError>
-        requires { IsProperTableLine read }
-        ensures { OnOk result (Tells (told_of_table self.old) (told_of_table self.new) (judged_faults self.old.builder number read)) }
-    {
-        match table_subject(&read, LoadCause::NotDeclared) {
-            Ok(about) => {
-                let taken = self.builder.take(number, without_weights(read));
-                self.tell_taken(about, taken)
-            }
-            Err(error) => {
-                drop(read);
-                Err(error)
-            }
-        }
-    }
-
-    // Tells what the builder answered to a line about this, if it refused it. The answer is whether the line ends the category.
-    fn tell_taken(
-        &mut self,
-        about: About,
-        taken: Result<bool, LoadFault>,
-    ) -> Result<bool, AllocError>
-        ensures told { OnOk result (Tells (told_of_table self.old) (told_of_table self.new) (answered_faults taken)) }
-        ensures memory { OnOk result (IfErr taken (λ fault. fault.cause ≢ OutOfMemory)) }
-    {
-        match taken {
-            Ok(ended) => {
-                drop(about);
-                Ok(ended)
-            }
-            Err(
-                LoadFault {
-                    cause: LoadCause::OutOfMemory,
-                    ..
-                },
-            ) => {
-                drop(about);
-                Err(AllocError)
-            }
-            Err(fault) => {
-                self.tell_load(fault, about)?;
-                Ok(false)
-            }
-        }
-    }
-
-    // Closes an order that was opened for a line outside of one, so that it isn't told once more where the next one opens, or the
-    // category ends.
-    fn close_opened(&mut self)
-        ensures left { IsLeftBy self.old self.new.builder }
+    // Opens an order, with the rules that stand, or else one level.
+    fn open(&mut self) -> Result<(), AllocError>
         ensures told { self.new.told ≡ self.old.told }
+        ensures opened { OnOk result (self.new.builder ≡ opened_by self.old.builder) }
+        ensures standing { self.new.standing ≡ self.old.standing }
     {
-        if self.opened {
-            self.opened = false;
-            let _ = self.builder.take(0, TableLine::OrderEnd);
-        }
+        let start = TableLine::OrderStart {
+            section: None,
+            rules: None,
+        };
+        self.put_own(start)
     }
 
-    // Opens an order, with the rules that stand, if there are any.
-    fn open(&mut self)
-        ensures { self.new.told ≡ self.old.told }
+    // Closes an order that was opened here.
+    fn close(&mut self) -> Result<(), AllocError>
+        ensures told { self.new.told ≡ self.old.told }
+        ensures closed { OnOk result (self.new.builder ≡ closed_by self.old.builder) }
+        ensures standing { self.new.standing ≡ self.old.standing }
     {
-        let _ = self.builder.take(
-            0,
-            TableLine::OrderStart {
-                section: None,
-                rules: None,
-            },
-        );
+        self.put_own(TableLine::OrderEnd)
+    }
+
+    // Puts a line to the builder that is none of the text, and that it can't refuse.
+    fn put_own(&mut self, line: TableLine) -> Result<(), AllocError>
+        requires { IsProperTableLine line }
+        ensures told { self.new.told ≡ self.old.told }
+        ensures taken { OnOk result (self.new.builder ≡ state_with self.old.builder 0 line) }
+        ensures standing { self.new.standing ≡ self.old.standing }
+    {
+        match self.builder.take(0, line) {
+            Ok(_) => Ok(()),
+            Err(_) => Err(AllocError),
+        }
     }
 }
 
@@ -446,16 +441,10 @@ fn begins_order(line: &TableLine) -> bool {
     matches!(line, TableLine::OrderStart { .. })
 }
 
-// Whether a line opens an order, or stands in one.
-fn is_for_an_order(line: &TableLine) -> bool {
-    matches!(
-        line,
-        TableLine::OrderStart { .. } | TableLine::Section(_) | TableLine::Order(_)
-    )
-}
-
 // Whether the first token of a line is `order_start`.
-fn begins_with_order_start(line: &Line) -> bool {
+fn begins_with_order_start(line: &Line) -> bool
+    ensures { result ≡ begins_order line.now.tokens }
+{
     match line.tokens.get().first() {
         Some(first) => is_word(first, "order_start"),
         None => false,
