@@ -422,7 +422,7 @@ def made(program, folder, seed):
 
 
 def too_long(program, folder):
-    """How the lints of texts that are too long differ: a table with a declaration too many, and a delta file with a line too many."""
+    """How the lints of texts that are too long differ: a table with a declaration too many, and a delta file with two lines too many."""
     text = Text(random.Random(0))
     text.put_all(["LC_COLLATE", *(f"collating-symbol <S{number}>" for number in range(262144))])
     text.put("collating-symbol <LAST>", (42, "<LAST>"))
@@ -434,8 +434,8 @@ def too_long(program, folder):
     few.put_all(["LC_COLLATE", "order_start forward", "order_end", "END LC_COLLATE"])
     few.write(base)
     with open(long, "wb") as file:
-        file.write(b"LC_COLLATE\n" + b"\n" * 4194304)
-    # The last line that is taken is the one before, and no end stands there.
+        file.write(b"LC_COLLATE\n" + b"\n" * 4194305)
+    # Of the lines that are too many one is told. The last line that is taken is the one before, and no end stands there.
     yield differs(program, [base, long], [(4194305, 12, None), (4194304, 43, None)])
 
 

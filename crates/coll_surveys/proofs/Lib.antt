@@ -1,2 +1,3 @@
+pub mod OnceLemmas
 pub mod TellingLemmas
 pub mod WeightLemmas

@@ -3,6 +3,9 @@
 //! Such a table is there already, built of this text, so no line is judged or put to a builder again. What is told stands on few kinds of
 //! lines: `script`, and the declarations of names that have no entry. The order lines, which are most, are passed over unread.
 
+ghost use Rattle.std.specs.Prelude.{IfOk};
+ghost use Rattle.coll_surveys.specs.ToldFaults.{AreOnce};
+
 use crate::collecting::{Collected, Surveyed};
 use crate::line_surveys::{Opening, TakesLines, survey_keywords};
 use crate::unplaced::{Declarations, DeclaredName};
@@ -26,7 +29,9 @@ pub fn survey_accepted(
     keys: HashKeys,
     text: &[u8],
     table: Table,
-) -> Result<Surveyed, AllocError> {
+) -> Result<Surveyed, AllocError>
+    ensures { IfOk result (λ surveyed. AreOnce surveyed.told.faults.items) }
+{
     let mut survey = AcceptedSurvey {
         alloc,
         told: Collected::new(alloc, keys, 0),
@@ -44,7 +49,9 @@ impl AcceptedSurvey {
     }
 
     // What is told, and a table.
-    fn over(self, table: Table) -> Surveyed {
+    fn over(self, table: Table) -> Surveyed
+        ensures { AreOnce result.told.faults.items }
+    {
         let AcceptedSurvey {
             alloc: _,
             told,

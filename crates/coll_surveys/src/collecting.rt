@@ -1,15 +1,16 @@
 //! What is told of a text, as it is gathered.
 //!
 //! Of one text the first faults are told, up to a limit, in the order in which they are found, and of each kind of warnings how many
-//! there are, and the first. An identifier that isn't declared, or that a weight names and that has no entry, is told once for each of
-//! these faults.
+//! there are, and the first. No fault is told twice (`AreOnce`): none of one line, and that an identifier isn't declared, or that a
+//! weight names it and it has no entry, is told once of it, for all lines.
 
-ghost use Rattle.std.specs.Prelude.{◌≡◌, ◌∷◌, [], OnOk};
+ghost use Rattle.std.specs.Prelude.{◌≡◌, ◌∷◌, [], reverse, IfOk, OnOk};
+ghost use Rattle.std.specs.List.{IsDistinct-prop, list_any};
 ghost use Rattle.std.specs.Option.{option_map};
 ghost use Rattle.coll_surveys.specs.GatheredWarnings.{Warns};
-ghost use Rattle.coll_surveys.specs.ToldFaults.{Tells, told_fault};
+ghost use Rattle.coll_surveys.specs.ToldFaults.{AreOnce, Tells, are_same, told_fault};
 
-use crate::findings::{About, FoundFault};
+use crate::findings::{About, FoundFault, NOT_DECLARED, WEIGHT_NOT_PLACED};
 use crate::warnings::{Warning, Warnings};
 use coll_bench::{Fault, RunFault};
 use coll_lookups::{HashKeys, IdSet};
@@ -19,11 +20,6 @@ use std::alloc::{AllocError, Global};
 
 // Most faults that are told.
 const MOST_TOLD: usize = 1_000;
-
-// The numbers of the faults that are told once for each identifier.
-const NOT_DECLARED: u8 = 34;
-
-const WEIGHT_NOT_PLACED: u8 = 38;
 
 /// What is told of one input.
 #[derive(Drop)]
@@ -47,14 +43,18 @@ pub struct Surveyed {
 
 impl Surveyed {
     /// What is told, without the table.
-    pub fn into_told(self) -> Told {
+    pub fn into_told(self) -> Told
+        ensures { result ≡ self.told }
+    {
         let Surveyed { told, table } = self;
         drop(table);
         told
     }
 
     /// The same, unless memory was refused to the survey.
-    pub(crate) fn if_done(self, done: Result<(), AllocError>) -> Result<Surveyed, AllocError> {
+    pub(crate) fn if_done(self, done: Result<(), AllocError>) -> Result<Surveyed, AllocError>
+        ensures { IfOk result (λ surveyed. surveyed ≡ self) }
+    {
         match done {
             Ok(()) => Ok(self),
             Err(error) => {
@@ -75,6 +75,7 @@ pub(crate) struct Collected {
     undeclared: IdSet,
     // What was told as named by a weight, and not placed.
     unplaced: IdSet,
+    ghost once: { AreOnce told.faults.items } by { IsDistinct-prop are_same told.faults.items },
 }
 
 impl Collected {
@@ -92,8 +93,11 @@ impl Collected {
         }
     }
 
-    /// What is told.
-    pub fn into_told(self) -> Told {
+    /// What is told, no fault twice.
+    pub fn into_told(self) -> Told
+        ensures told { result ≡ self.told }
+        ensures once { AreOnce result.faults.items }
+    {
         let Collected {
             input: _,
             told,
@@ -105,7 +109,7 @@ impl Collected {
         told
     }
 
-    /// Tells a fault of a line, which a batch would answer at the line where its statement begins.
+    /// Tells a fault of a line, which a batch would answer at the line where its statement begins, unless it was told.
     pub fn tell(
         &mut self,
         begins: u32,
@@ -136,10 +140,15 @@ impl Collected {
         }
     }
 
-    // Puts a fault behind those that are told, where there is room for one more.
+    // Puts a fault behind those that are told, unless it is one of them, where there is room for one more. Behind the first one for which
+    // there was none nothing is looked at.
     fn push(&mut self, found: FoundFault) -> Result<(), AllocError>
         ensures { OnOk result (Tells self.old.told.faults.items self.new.told.faults.items (told_fault found ∷ [])) }
     {
+        if self.told.more_faults.is_some() || is_told(self.told.faults.as_slice(), &found) {
+            drop(found);
+            return Ok(());
+        }
         if self.told.faults.len() >= MOST_TOLD {
             self.told.more_faults = Some(self.input);
             drop(found);
@@ -158,7 +167,8 @@ impl Collected {
         self.told.warnings.add(warning, line, id)
     }
 
-    // Whether a fault wasn't told yet of what it is about; from here on it was.
+    // Whether a fault that is told by identifiers wasn't told yet of what it is about; from here on it was. This spares a look at all that
+    // was told.
     fn is_new(&mut self, number: u8, about: &About) -> Result<bool, AllocError>
         ensures { self.new.told ≡ self.old.told }
     {
@@ -171,6 +181,13 @@ impl Collected {
             _ => Ok(true),
         }
     }
+}
+
+// Whether a fault is one of those that were told. The last ones, of which most are of the same line, are looked at first.
+fn is_told(told: &[FoundFault], found: &FoundFault) -> bool
+    ensures { result ≡ list_any (are_same found.now) (reverse told.now) }
+{
+    told.iter().rev().any(|other| found.is_same(other))
 }
 
 // Puts an identifier into a set, and answers whether it was not there.

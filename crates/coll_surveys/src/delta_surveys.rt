@@ -4,12 +4,12 @@
 //! and a block with faults without the lines at fault, so that what comes behind is judged by as much as possible. A line of the wrong
 //! kind in a block is told, and taken as outside of one.
 
-ghost use Rattle.std.specs.Prelude.{◌≡◌, ◌∷◌, [], map, OnOk};
+ghost use Rattle.std.specs.Prelude.{◌≡◌, ◌∷◌, [], map, IfOk, OnOk};
 ghost use Rattle.coll_lex.specs.Names.{AreTokens};
 ghost use Rattle.coll_requests.specs.DeltaFaults.{early_fault};
 ghost use Rattle.coll_bench.specs.Faults.{delta_fault_of};
 ghost use Rattle.coll_bench.specs.declared.faults.Fault.TheVariants as refused;
-ghost use Rattle.coll_surveys.specs.ToldFaults.{Tells, at_line};
+ghost use Rattle.coll_surveys.specs.ToldFaults.{AreOnce, Tells, at_line};
 ghost use Rattle.coll_surveys.specs.DeltaSurveys.{alone_faults, block_faults, category_faults, early_faults, end_faults, ended_faults, faults_of_line};
 ghost use Rattle.coll_surveys.specs.DeltaSurveys.{block_left, faults_told, found_fault, line_faults, open_faults, order_faults};
 ghost use Rattle.coll_surveys.specs.DeltaSurveys.{passed_faults, refused_faults, statement_faults, table_left};
@@ -47,7 +47,9 @@ pub fn survey_delta(
     keys: HashKeys,
     table: Table,
     text: &[u8],
-) -> Result<Surveyed, AllocError> {
+) -> Result<Surveyed, AllocError>
+    ensures { IfOk result (λ surveyed. AreOnce surveyed.told.faults.items) }
+{
     let mut survey = DeltaSurvey {
         alloc,
         table,
@@ -89,7 +91,9 @@ impl DeltaSurvey {
     }
 
     // What a survey gives.
-    fn end(self) -> Surveyed {
+    fn end(self) -> Surveyed
+        ensures { AreOnce result.told.faults.items }
+    {
         let DeltaSurvey {
             alloc: _,
             table,

@@ -1,12 +1,19 @@
 //! The faults of a text. All of this is plain data.
 
 ghost use Rattle.std.specs.Prelude.{◌≡◌};
+ghost use Rattle.coll_surveys.specs.ToldFaults.{are_same, is_told_by_id, same_subject};
 
 use crate::foreign_words::ForeignWord;
 use coll_advice::advice_of;
 use coll_bench::RunFault;
 use coll_lex::TextBuf;
 use coll_syntax::Id;
+
+/// The number of what isn't declared. It is told once of each identifier.
+pub(crate) const NOT_DECLARED: u8 = 34;
+
+/// The number of what a weight names and has no entry. It is told once of each identifier.
+pub(crate) const WEIGHT_NOT_PLACED: u8 = 38;
 
 /// What a fault is about.
 #[derive(Drop)]
@@ -22,6 +29,20 @@ pub enum About {
     },
     /// A keyword of another dialect.
     Word(ForeignWord),
+}
+
+impl About {
+    // Whether another fault of a line is about the same. A line begins with one keyword.
+    fn is_same(&self, other: &About) -> bool
+        ensures { result ≡ same_subject self.now other.now }
+    {
+        match (self, other) {
+            (About::Nothing, About::Nothing) => true,
+            (About::Id { id, .. }, About::Id { id: other, .. }) => id.is_same(other),
+            (About::Word(_), About::Word(_)) => true,
+            _ => false,
+        }
+    }
 }
 
 /// A fault of one of the texts.
@@ -48,6 +69,30 @@ impl FoundFault {
             line,
             about,
             sentence: sentence_of(fault.fault.number()),
+        }
+    }
+
+    /// Whether another fault is this one: it has the same number and is about the same, at the same line of the same input, or, where an
+    /// identifier is told once, at any.
+    pub(crate) fn is_same(&self, other: &FoundFault) -> bool
+        ensures { result ≡ are_same self.now other.now }
+    {
+        (self.line == other.line || self.is_told_by_id())
+            && self.fault.input == other.fault.input
+            && self.fault.fault.number() == other.fault.fault.number()
+            && self.about.is_same(&other.about)
+    }
+
+    // Whether it is told once of an identifier, and not once of each line.
+    fn is_told_by_id(&self) -> bool
+        ensures { result ≡ is_told_by_id self.now }
+    {
+        match &self.about {
+            About::Id { .. } => matches!(
+                self.fault.fault.number(),
+                NOT_DECLARED | WEIGHT_NOT_PLACED
+            ),
+            About::Nothing | About::Word(_) => false,
         }
     }
 }

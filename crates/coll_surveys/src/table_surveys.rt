@@ -13,7 +13,7 @@ ghost use Rattle.coll_texts.specs.LoadFaults.{early_fault, lex_cause};
 ghost use Rattle.coll_texts.specs.Loading.{state_with};
 ghost use Rattle.coll_texts.specs.declared.load_faults.LoadCause.TheVariants as cause;
 ghost use Rattle.coll_texts.specs.declared.load_faults.LoadCause.TheVariants.{OutOfMemory};
-ghost use Rattle.coll_surveys.specs.ToldFaults.{Tells};
+ghost use Rattle.coll_surveys.specs.ToldFaults.{AreOnce, Tells};
 ghost use Rattle.coll_surveys.specs.TableSurveys.{IsLeftBy, IsLeftJudged, bare_line, begins_order, closed_by, faults_of_line, judging};
 ghost use Rattle.coll_surveys.specs.TableSurveys.{line_faults, load_fault, load_faults, opened_by, outside_faults, standing_after};
 ghost use Rattle.coll_surveys.specs.TableSurveys.{standing_behind, standing_behind_start, standing_read, told_of_table};
@@ -55,7 +55,9 @@ struct ReadTable {
 }
 
 /// Surveys a table, which is input 0.
-pub fn survey_table(alloc: Global, keys: HashKeys, text: &[u8]) -> Result<Surveyed, AllocError> {
+pub fn survey_table(alloc: Global, keys: HashKeys, text: &[u8]) -> Result<Surveyed, AllocError>
+    ensures { IfOk result (λ surveyed. AreOnce surveyed.told.faults.items) }
+{
     let mut survey = TableSurvey {
         alloc,
         builder: TableBuilder::new(alloc, keys)?,
@@ -78,7 +80,9 @@ pub fn survey_table(alloc: Global, keys: HashKeys, text: &[u8]) -> Result<Survey
 
 impl ReadTable {
     // Ends a survey of which all lines were taken: the weights of the lines are looked up in the table that they give.
-    fn end(mut self, builder: TableBuilder, text: &[u8]) -> Result<Surveyed, AllocError> {
+    fn end(mut self, builder: TableBuilder, text: &[u8]) -> Result<Surveyed, AllocError>
+        ensures { IfOk result (λ surveyed. AreOnce surveyed.told.faults.items) }
+    {
         match ended_table(builder) {
             Ok(table) => {
                 let looked = self.look_up(text, &table);
@@ -103,7 +107,9 @@ impl ReadTable {
     }
 
     // What is told, and a table.
-    fn over(self, table: Option<Table>) -> Surveyed {
+    fn over(self, table: Option<Table>) -> Surveyed
+        ensures { AreOnce result.told.faults.items }
+    {
         let ReadTable {
             alloc: _,
             told,
