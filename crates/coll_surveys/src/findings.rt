@@ -63,6 +63,7 @@ impl FoundFault {
     pub fn new(fault: RunFault, line: u32, about: About) -> FoundFault
         ensures fault { result.fault ≡ fault }
         ensures line { result.line ≡ line }
+        ensures about { result.about ≡ about }
     {
         FoundFault {
             fault,
