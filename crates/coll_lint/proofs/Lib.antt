@@ -1,2 +1,3 @@
 pub mod KeptLemmas
 pub mod LintCases
+pub mod OrderLemmas

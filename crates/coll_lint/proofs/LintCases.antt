@@ -13,6 +13,9 @@ use Rattle.coll_bench.specs.Serving.{write_failed}
 use Rattle.coll_bench.specs.declared.faults.RunFault.{RunFault}
 use Rattle.coll_lint.specs.LintLines.{lint_text}
 use Rattle.coll_lint.specs.Lints.{BeginsWith, IsLintOf, LintRuns, LintsTexts, TellsFaults, is_at_fault, is_of_no_text}
+use Rattle.coll_surveys.specs.ToldFaults.{AreOnce}
+use Rattle.coll_surveys.specs.declared.findings.FoundFault.{FoundFault}
+use Rattle.coll_surveys.proofs.OnceLemmas.{once_none}
 use Rattle.coll_lint.specs.declared.lints.Lint.{Lint}
 
 -- a kind of fault that is neither of a read, of a write nor of memory
@@ -76,15 +79,17 @@ behind_fault table_text ended texts e = faulty (table_or_fault (reads table_text
 -- what is told of texts that give a table
 pub accepted : (table_text : List ℕ) (delta_texts : List (List ℕ)) (r : Result Lint RunFault) (table : Collation) → after_inputs table_text delta_texts ≡ Ok table
     → IfOk r (λ lint. lint.faults ≡ []) → IfErr r (λ ended. is_of_no_text ended ≡ true) → LintsTexts table_text delta_texts r
-accepted table_text delta_texts (Ok lint) table judged none lacks = subst (λ o. TellsFaults o lint.faults) (sym judged) none
+accepted table_text delta_texts (Ok lint) table judged none lacks =
+    (subst (λ o. TellsFaults o lint.faults) (sym judged) none, subst (λ (l : List FoundFault). AreOnce l) (sym none) once_none)
 accepted table_text delta_texts (Err ended) table judged none lacks = lacks
 
 -- what is told of texts that are refused
 pub refused : (table_text : List ℕ) (delta_texts : List (List ℕ)) (first : RunFault) (r : Result Lint RunFault)
     → (is_of_no_text first ≡ false → after_inputs table_text delta_texts ≡ Err first)
-    → IfOk r (λ lint. is_of_no_text first ≡ false) → IfOk r (λ lint. BeginsWith first lint.faults) → IfErr r (λ ended. is_of_no_text ended ≡ true) → LintsTexts table_text delta_texts r
-refused table_text delta_texts first (Ok lint) judged text begins lacks = subst (λ o. TellsFaults o lint.faults) (sym (judged text)) begins
-refused table_text delta_texts first (Err ended) judged text begins lacks = lacks
+    → IfOk r (λ lint. is_of_no_text first ≡ false) → IfOk r (λ lint. BeginsWith first lint.faults) → IfOk r (λ lint. AreOnce lint.faults) → IfErr r (λ ended. is_of_no_text ended ≡ true)
+    → LintsTexts table_text delta_texts r
+refused table_text delta_texts first (Ok lint) judged text begins once lacks = (subst (λ o. TellsFaults o lint.faults) (sym (judged text)) begins, once)
+refused table_text delta_texts first (Err ended) judged text begins once lacks = lacks
 
 -- bytes behind those that are known
 appended : (a c : Option (List ℕ)) (before bytes : List ℕ) → a ≡ Some before → Appends a c bytes → c ≡ Some (before ++ bytes)

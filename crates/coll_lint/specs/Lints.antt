@@ -1,6 +1,7 @@
 -- What is told of texts: what a batch answers to them says whether they have a fault, and which one is told first (the project's own).
-use Rattle.std.specs.Prelude.{◌≡◌, ◌⊎◌, ◌==◌, ◌||◌, ℕ, Bool, true, false, nat_lt, Option, Some, Result, Ok, Err}
+use Rattle.std.specs.Prelude.{◌≡◌, ◌⊎◌, ◌<◌, ◌==◌, ◌&&◌, ◌||◌, ℕ, Bool, true, false, nat_lt, Option, Some, Result, Ok, Err}
 use Rattle.std.specs.Prelude.{List, [], ◌∷◌, ◌++◌, length}
+use Rattle.std.specs.List.{remove}
 use Rattle.coll_nodes.specs.Table.{Collation}
 use Rattle.coll_nodes.specs.TableLayout.{TableValue, collation}
 use Rattle.coll_bench.specs.BatchOutcome.{after_deltas, after_inputs}
@@ -8,6 +9,7 @@ use Rattle.coll_bench.specs.Faults.{fault_number}
 use Rattle.coll_bench.specs.Serving.{write_failed}
 use Rattle.coll_bench.specs.declared.faults.RunFault.{RunFault}
 use Rattle.coll_lint.specs.LintLines.{lint_text}
+use Rattle.coll_surveys.specs.ToldFaults.{AreOnce, number_told}
 use Rattle.coll_surveys.specs.declared.findings.FoundFault.{FoundFault}
 use Rattle.coll_lint.specs.declared.lints.Lint.{Lint}
 
@@ -15,14 +17,27 @@ use Rattle.coll_lint.specs.declared.lints.Lint.{Lint}
 abbrev pub BeginsWith : RunFault → List FoundFault → Type 0
 BeginsWith first faults = (told : FoundFault) × (later : List FoundFault) × (faults ≡ told ∷ later) × (told.fault ≡ first)
 
+-- this fault stands before those that a survey tells, of which at most one is left out, which is the same
+abbrev pub IsPutFirst : RunFault → (old new : List FoundFault) → Type 0
+IsPutFirst first old new =
+    (told : FoundFault) × (later : List FoundFault) × (new ≡ told ∷ later) × (told.fault ≡ first)
+    × ((later ≡ old) ⊎ ((place : ℕ) × (place < length old) × (later ≡ remove old place)))
+
+-- a fault that a survey found is the one that a batch answers: it has its input and its number, and its line is that of its statement, or
+-- its own
+abbrev pub is_answered : RunFault → FoundFault → Bool
+is_answered first found =
+    ((found.fault.line == first.line) || (found.line == first.line))
+    && ((found.fault.input == first.input) && (number_told found == fault_number first.fault))
+
 -- the faults that are told where texts give a table, and there are none; or where a batch answers a fault, which is told first
 abbrev pub TellsFaults : Result Collation RunFault → List FoundFault → Type 0
 TellsFaults (Ok table) faults = faults ≡ []
 TellsFaults (Err first) faults = BeginsWith first faults
 
--- what is told of texts
+-- what is told of texts, no fault twice
 abbrev pub IsLintOf : (table_text : List ℕ) → (delta_texts : List (List ℕ)) → Lint → Type 0
-IsLintOf table_text delta_texts lint = TellsFaults (after_inputs table_text delta_texts) lint.faults
+IsLintOf table_text delta_texts lint = TellsFaults (after_inputs table_text delta_texts) lint.faults × AreOnce lint.faults
 
 -- a fault ended a run that is none of the texts: a read failed, or memory was refused
 abbrev pub is_of_no_text : RunFault → Bool

@@ -3,8 +3,11 @@
 //! A survey finds it too, as one of many; there it has what it is about, and in a block its own line. Where a survey hasn't found it, it
 //! is told as the batch answers it.
 
-ghost use Rattle.std.specs.Prelude.{◌≡◌, ◌<◌, length, IfSome, OnOk};
-ghost use Rattle.coll_lint.specs.Lints.{BeginsWith};
+ghost use Rattle.std.specs.Prelude.{◌≡◌, ◌<◌, true, false, length, get_or, All, IfNone, IfSome, OnOk};
+ghost use Rattle.coll_lint.specs.Lints.{BeginsWith, IsPutFirst, is_answered as answered_so};
+ghost use Rattle.coll_surveys.specs.ToldFaults.{AreOnce};
+ghost use Rattle.coll_surveys.specs.declared.findings.About.TheVariants as about;
+ghost use Rattle.coll_surveys.specs.declared.findings.FoundFault.{FoundFault};
 
 use coll_bench::RunFault;
 use coll_surveys::{About, FoundFault};
@@ -12,7 +15,9 @@ use std::alloc::AllocError;
 
 /// Puts the fault that a batch answers before those of a survey, from which it is taken out where it is among them.
 pub(crate) fn put_first(first: RunFault, faults: &mut Vec<FoundFault>) -> Result<(), AllocError>
-    ensures { OnOk result (BeginsWith first faults.new.items) }
+    ensures begins { OnOk result (BeginsWith first faults.new.items) }
+    ensures others { OnOk result (IsPutFirst first faults.old.items faults.new.items) }
+    ensures once { OnOk result (AreOnce faults.old.items → AreOnce faults.new.items) }
 {
     let told = match place_of(&first, faults.as_slice()) {
         Some(place) => told_as(first, faults.remove(place)),
@@ -22,23 +27,29 @@ pub(crate) fn put_first(first: RunFault, faults: &mut Vec<FoundFault>) -> Result
     Ok(())
 }
 
-// Where the first of these faults stands that has the input, the line and the number of another.
-fn place_of(fault: &RunFault, found: &[FoundFault]) -> Option<usize>
-    ensures { IfSome result (λ place. place < length found.now) }
+// Where the first of these faults stands that is the one that a batch answers.
+fn place_of(first: &RunFault, found: &[FoundFault]) -> Option<usize>
+    ensures none { IfNone result (All (λ other. answered_so first.now other ≡ false) found.now) }
+    ensures found { IfSome result (λ place. (other : FoundFault) → answered_so first.now (get_or found.now place other) ≡ true) }
+    ensures within { IfSome result (λ place. place < length found.now) }
 {
-    found.iter().position(|other| is_same(fault, &other.fault))
+    found.iter().position(|other| is_answered(first, other))
 }
 
-// Whether two faults have the same input, line and number.
-fn is_same(fault: &RunFault, other: &RunFault) -> bool {
-    fault.input == other.input
-        && fault.line == other.line
-        && fault.fault.number() == other.fault.number()
+// Whether a fault that a survey found is the one that a batch answers.
+fn is_answered(first: &RunFault, found: &FoundFault) -> bool
+    ensures { result ≡ answered_so first.now found.now }
+{
+    (found.fault.line == first.line || found.line == first.line)
+        && found.fault.input == first.input
+        && found.fault.fault.number() == first.fault.number()
 }
 
 // What is told of a fault that a batch answers, and that a survey found as well.
 fn told_as(first: RunFault, found: FoundFault) -> FoundFault
-    ensures { result.fault ≡ first }
+    ensures fault { result.fault ≡ first }
+    ensures line { result.line ≡ found.line }
+    ensures about { result.about ≡ found.about }
 {
     let FoundFault {
         fault: _,
@@ -51,7 +62,9 @@ fn told_as(first: RunFault, found: FoundFault) -> FoundFault
 
 // What is told of a fault that a batch answers, and that no survey found.
 fn told_alone(first: RunFault) -> FoundFault
-    ensures { result.fault ≡ first }
+    ensures fault { result.fault ≡ first }
+    ensures line { result.line ≡ first.line }
+    ensures about { result.about ≡ about.Nothing }
 {
     FoundFault::new(first, first.line, About::Nothing)
 }

@@ -1,7 +1,7 @@
 //! A table, or a delta file over a table, is linted: all that is wrong with it is told, and not only the first fault.
 //!
 //! `lint` carries the theorem of a lint (`LintRuns`). The texts are judged as a batch judges them, and its answer decides whether a
-//! fault is told, and which one first. What else is told is found by a survey, of which no clause speaks. A table without fault is read
+//! fault is told, and which one first. What else is told is found by a survey, and no fault is told twice. A table without fault is read
 //! once: the table that the batch gives is the one that is surveyed, and a delta file is judged over a copy of it.
 
 ghost use Rattle.std.specs.Prelude.{◌≡◌, ◌∷◌, [], true, Ok, map, string_bytes, option_map, option_to_list, IfOk, IfErr, false};
@@ -12,6 +12,7 @@ ghost use Rattle.coll_lint.specs.LintLines.{lint_text};
 ghost use Rattle.coll_lint.specs.Lints.{BeginsWith, JudgesTable, JudgesDelta, LintRuns, LintsTexts, is_at_fault};
 ghost use Rattle.coll_lint.specs.Lints.{is_of_no_text as of_no_text};
 ghost use Rattle.coll_nodes.specs.TableLayout.{collation};
+ghost use Rattle.coll_surveys.specs.ToldFaults.{AreOnce};
 
 use crate::first_faults::put_first;
 use crate::kept_texts::no_memory;
@@ -63,8 +64,8 @@ fn write_told<W: Sink>(lint: &Lint, names: &[String], output: &mut W) -> Result<
 
 /// All that is wrong with the text of a table, and with that of a delta file where one is given.
 ///
-/// The faults are none exactly where a batch over the same texts accepts them, and the first one told is the one that it answers. Where
-/// the table is at fault, the delta file isn't looked at. Lack of memory is the answer, and there is no other fault.
+/// The faults are none exactly where a batch over the same texts accepts them, the first one told is the one that it answers, and none is
+/// told twice. Where the table is at fault, the delta file isn't looked at. Lack of memory is the answer, and there is no other fault.
 pub fn lint_texts(
     alloc: Global,
     keys: HashKeys,
@@ -148,6 +149,7 @@ fn lint_faulty_delta(
 ) -> Result<Lint, RunFault>
     ensures text { IfOk result (λ lint. of_no_text first ≡ false) }
     ensures begins { IfOk result (λ lint. BeginsWith first lint.faults) }
+    ensures once { IfOk result (λ lint. AreOnce lint.faults) }
     ensures memory { IfErr result (λ ended. of_no_text ended ≡ true) }
 {
     if is_of_no_text(&first) {
@@ -167,6 +169,7 @@ fn lint_faulty(
 ) -> Result<Lint, RunFault>
     ensures text { IfOk result (λ lint. of_no_text first ≡ false) }
     ensures begins { IfOk result (λ lint. BeginsWith first lint.faults) }
+    ensures once { IfOk result (λ lint. AreOnce lint.faults) }
     ensures memory { IfErr result (λ ended. of_no_text ended ≡ true) }
 {
     if is_of_no_text(&first) {
@@ -189,7 +192,9 @@ fn lint_if_accepted(alloc: Global, told: Result<Told, AllocError>) -> Result<Lin
 
 // What is told of texts in which a batch answers this fault first, by their survey, unless memory was refused.
 fn lint_if_refused(first: RunFault, told: Result<Told, AllocError>) -> Result<Lint, RunFault>
+    requires { IfOk told (λ told. AreOnce told.faults.items) }
     ensures begins { IfOk result (λ lint. BeginsWith first lint.faults) }
+    ensures once { IfOk result (λ lint. AreOnce lint.faults) }
     ensures memory { IfErr result (λ ended. of_no_text ended ≡ true) }
 {
     match told {
@@ -264,7 +269,9 @@ fn accepted(alloc: Global, told: Told) -> Lint
 
 // What is told of texts by their survey, and by the fault that a batch answers first.
 fn refused(first: RunFault, told: Told) -> Result<Lint, AllocError>
-    ensures { IfOk result (λ lint. BeginsWith first lint.faults) }
+    requires { AreOnce told.faults.items }
+    ensures begins { IfOk result (λ lint. BeginsWith first lint.faults) }
+    ensures once { IfOk result (λ lint. AreOnce lint.faults) }
 {
     let Told {
         mut faults,
@@ -286,7 +293,9 @@ fn refused(first: RunFault, told: Told) -> Result<Lint, AllocError>
 }
 
 // What a survey tells of the text of a table that is at fault.
-fn survey_alone(alloc: Global, keys: HashKeys, table: &[u8]) -> Result<Told, AllocError> {
+fn survey_alone(alloc: Global, keys: HashKeys, table: &[u8]) -> Result<Told, AllocError>
+    ensures { IfOk result (λ told. AreOnce told.faults.items) }
+{
     told_of(alloc, survey_table(alloc, keys, table)?, table, None)
 }
 
@@ -312,7 +321,9 @@ fn survey_over(
     read: Table,
     table: &[u8],
     delta: &[u8],
-) -> Result<Told, AllocError> {
+) -> Result<Told, AllocError>
+    ensures { IfOk result (λ told. AreOnce told.faults.items) }
+{
     told_of(
         alloc,
         survey_delta(alloc, keys, read, delta)?,

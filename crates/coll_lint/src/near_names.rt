@@ -1,5 +1,8 @@
 //! Declared names that may be meant where a name isn't declared.
 
+ghost use Rattle.std.specs.Prelude.{◌≡◌, length, map, OnOk};
+ghost use Rattle.coll_lint.specs.Orders.{bare_fault, bare_subject};
+
 use coll_advice::nearest_name;
 use coll_lex::TextBuf;
 use coll_surveys::{About, FoundFault};
@@ -18,19 +21,37 @@ pub(crate) fn seek_near_names(
     alloc: Global,
     table: &Table,
     faults: &mut [FoundFault],
-) -> Result<(), AllocError> {
+) -> Result<(), AllocError>
+    ensures same { OnOk result (map bare_fault faults.new ≡ map bare_fault faults.old) }
+    ensures len { length faults.new ≡ length faults.old }
+{
     let mut sought = 0;
     for found in faults.iter_mut() {
-        if sought < MOST_SOUGHT && found.fault.fault.number() == NOT_DECLARED {
-            sought += 1;
-            seek_near(alloc, table, &mut found.about)?;
-        }
+        sought = seek_in_turn(alloc, table, found, sought)?;
     }
     Ok(())
 }
 
+// Gives a fault the name that is nearest, where so many were sought for those before it. The answer is how many then were.
+fn seek_in_turn(
+    alloc: Global,
+    table: &Table,
+    found: &mut FoundFault,
+    sought: usize,
+) -> Result<usize, AllocError>
+    ensures { OnOk result (bare_fault found.new ≡ bare_fault found.old) }
+{
+    if sought >= MOST_SOUGHT || found.fault.fault.number() != NOT_DECLARED {
+        return Ok(sought);
+    }
+    seek_near(alloc, table, &mut found.about)?;
+    Ok(sought.saturating_add(1))
+}
+
 // Gives what a fault is about the declared name that is nearest, where one is near.
-fn seek_near(alloc: Global, table: &Table, about: &mut About) -> Result<(), AllocError> {
+fn seek_near(alloc: Global, table: &Table, about: &mut About) -> Result<(), AllocError>
+    ensures { OnOk result (bare_subject about.new ≡ bare_subject about.old) }
+{
     match about {
         About::Id { id, near } => fill_near(alloc, table, id, near),
         About::Nothing | About::Word(_) => Ok(()),

@@ -1,5 +1,9 @@
 //! What a survey gives, put in order: the faults by their lines, with names that are near, and byte order marks.
 
+ghost use Rattle.std.specs.Prelude.{◌≡◌, IfOk, OnOk};
+ghost use Rattle.coll_lint.specs.Orders.{AreRearranged};
+ghost use Rattle.coll_surveys.specs.ToldFaults.{AreOnce};
+
 use crate::near_names::seek_near_names;
 use coll_surveys::{Surveyed, Told, Warnings};
 use std::alloc::{AllocError, Global};
@@ -8,13 +12,17 @@ use std::alloc::{AllocError, Global};
 const MARK: &[u8] = b"\xEF\xBB\xBF";
 
 /// What a survey tells, its faults by the order of the lines, with names that are near to those that aren't declared, and with
-/// warnings of byte order marks at the beginning of a table and a delta file.
+/// warnings of byte order marks at the beginning of a table and a delta file. No fault is lost or told twice.
 pub(crate) fn told_of(
     alloc: Global,
     mut surveyed: Surveyed,
     table: &[u8],
     delta: Option<&[u8]>,
-) -> Result<Told, AllocError> {
+) -> Result<Told, AllocError>
+    requires { AreOnce surveyed.told.faults.items }
+    ensures order { IfOk result (λ told. AreRearranged surveyed.told.faults.items told.faults.items) }
+    ensures once { IfOk result (λ told. AreOnce told.faults.items) }
+{
     note_marks(&mut surveyed.told.warnings, table, delta);
     match put_in_order(alloc, &mut surveyed) {
         Ok(()) => Ok(surveyed.into_told()),
@@ -27,7 +35,9 @@ pub(crate) fn told_of(
 
 // Puts the faults that are told in the order of the lines, with names that are near. Faults of a line stay in the order in which they
 // were found.
-fn put_in_order(alloc: Global, surveyed: &mut Surveyed) -> Result<(), AllocError> {
+fn put_in_order(alloc: Global, surveyed: &mut Surveyed) -> Result<(), AllocError>
+    ensures { OnOk result (AreRearranged surveyed.old.told.faults.items surveyed.new.told.faults.items) }
+{
     surveyed
         .told
         .faults

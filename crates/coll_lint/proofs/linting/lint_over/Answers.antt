@@ -14,4 +14,4 @@ pub returns-in-Err : goal.returns-in-Err
 returns-in-Err c =
     let texts = c.args.delta.now ∷ [] in
     refused c.args.table.now texts c.in-Err.first c.lint_faulty_delta.result (λ none. behind_table c.args.table.now (collation c.args.read) texts c.requires ∙ c.in-Err.ensures none)
-    c.lint_faulty_delta.ensures.text c.lint_faulty_delta.ensures.begins c.lint_faulty_delta.ensures.memory
+    c.lint_faulty_delta.ensures.text c.lint_faulty_delta.ensures.begins c.lint_faulty_delta.ensures.once c.lint_faulty_delta.ensures.memory

@@ -8,4 +8,4 @@ pub returns-in-Err : goal.returns-in-Err
 returns-in-Err c =
     let texts = option_to_list (option_map (λ text. text.now) c.args.delta) in
     refused c.args.table.now texts c.in-Err.first c.lint_faulty.result (λ none. behind_fault c.args.table.now c.in-Err.first texts (c.in-Err.ensures none)) c.lint_faulty.ensures.text
-    c.lint_faulty.ensures.begins c.lint_faulty.ensures.memory
+    c.lint_faulty.ensures.begins c.lint_faulty.ensures.once c.lint_faulty.ensures.memory
