@@ -1,2 +1,4 @@
 pub mod KeptLemmas
 pub mod LintCases
+pub mod MarkedLemmas
+pub mod NumberedLemmas

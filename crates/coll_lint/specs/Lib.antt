@@ -2,4 +2,8 @@ pub mod Counts
 pub mod KeptTexts
 pub mod LintLines
 pub mod Lints
+pub mod MarkedLines
+pub mod NumberedLines
+pub mod RefusedLines
+pub mod SpelledPlaces
 pub mod WarningLines

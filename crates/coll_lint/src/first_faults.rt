@@ -14,12 +14,19 @@ use std::alloc::AllocError;
 pub(crate) fn put_first(first: RunFault, faults: &mut Vec<FoundFault>) -> Result<(), AllocError>
     ensures { OnOk result (BeginsWith first faults.new.items) }
 {
-    let told = match place_of(&first, faults.as_slice()) {
-        Some(place) => told_as(first, faults.remove(place)),
-        None => told_alone(first),
-    };
+    let told = found_as(first, faults);
     faults.insert(0, told)?;
     Ok(())
+}
+
+/// What is told of a fault that a batch answers. It is taken out of the faults of a survey where it is among them.
+pub(crate) fn found_as(first: RunFault, faults: &mut Vec<FoundFault>) -> FoundFault
+    ensures { result.fault ≡ first }
+{
+    match place_of(&first, faults.as_slice()) {
+        Some(place) => told_as(first, faults.remove(place)),
+        None => told_alone(first),
+    }
 }
 
 // Where the first of these faults stands that has the input, the line and the number of another.
