@@ -17,11 +17,14 @@ use Rattle.coll_lint.specs.declared.lints.Lint.{Lint}
 abbrev pub BeginsWith : RunFault → List FoundFault → Type 0
 BeginsWith first faults = (told : FoundFault) × (later : List FoundFault) × (faults ≡ told ∷ later) × (told.fault ≡ first)
 
+-- these are the faults that a survey tells, of which at most one is left out
+abbrev pub AreOthers : (old new : List FoundFault) → Type 0
+AreOthers old new = (new ≡ old) ⊎ ((place : ℕ) × (place < length old) × (new ≡ remove old place))
+
 -- this fault stands before those that a survey tells, of which at most one is left out, which is the same
 abbrev pub IsPutFirst : RunFault → (old new : List FoundFault) → Type 0
 IsPutFirst first old new =
-    (told : FoundFault) × (later : List FoundFault) × (new ≡ told ∷ later) × (told.fault ≡ first)
-    × ((later ≡ old) ⊎ ((place : ℕ) × (place < length old) × (later ≡ remove old place)))
+    (told : FoundFault) × (later : List FoundFault) × (new ≡ told ∷ later) × (told.fault ≡ first) × AreOthers old later
 
 -- a fault that a survey found is the one that a batch answers: it has its input and its number, and its line is that of its statement, or
 -- its own

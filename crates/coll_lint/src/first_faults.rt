@@ -3,8 +3,8 @@
 //! A survey finds it too, as one of many; there it has what it is about, and in a block its own line. Where a survey hasn't found it, it
 //! is told as the batch answers it.
 
-ghost use Rattle.std.specs.Prelude.{◌≡◌, ◌<◌, true, false, length, get_or, All, IfNone, IfSome, OnOk};
-ghost use Rattle.coll_lint.specs.Lints.{BeginsWith, IsPutFirst, is_answered as answered_so};
+ghost use Rattle.std.specs.Prelude.{◌≡◌, ◌<◌, ◌∷◌, true, false, length, get_or, All, IfNone, IfSome, OnOk};
+ghost use Rattle.coll_lint.specs.Lints.{AreOthers, BeginsWith, IsPutFirst, is_answered as answered_so};
 ghost use Rattle.coll_surveys.specs.ToldFaults.{AreOnce};
 ghost use Rattle.coll_surveys.specs.declared.findings.About.TheVariants as about;
 ghost use Rattle.coll_surveys.specs.declared.findings.FoundFault.{FoundFault};
@@ -19,12 +19,22 @@ pub(crate) fn put_first(first: RunFault, faults: &mut Vec<FoundFault>) -> Result
     ensures others { OnOk result (IsPutFirst first faults.old.items faults.new.items) }
     ensures once { OnOk result (AreOnce faults.old.items → AreOnce faults.new.items) }
 {
+    let told = found_as(first, faults);
+    faults.insert(0, told)?;
+    Ok(())
+}
+
+/// What is told of a fault that a batch answers. It is taken out of the faults of a survey where it is among them.
+pub(crate) fn found_as(first: RunFault, faults: &mut Vec<FoundFault>) -> FoundFault
+    ensures fault { result.fault ≡ first }
+    ensures others { AreOthers faults.old.items faults.new.items }
+    ensures once { AreOnce faults.old.items → AreOnce (result ∷ faults.new.items) }
+{
     let told = match place_of(&first, faults.as_slice()) {
         Some(place) => told_as(first, faults.remove(place)),
         None => told_alone(first),
     };
-    faults.insert(0, told)?;
-    Ok(())
+    told
 }
 
 // Where the first of these faults stands that is the one that a batch answers.

@@ -8,7 +8,10 @@
 //! - `first_faults`: the fault that a batch answers is told first;
 //! - `lint_lines`: how all is written (`LintLines`), with `warning_lines`: a line for each kind of warnings (`WarningLines`), and
 //!   `counts`: numbers with commas (`Counts`);
-//! - `linting`: texts are linted, and what is told is written (`Lints`).
+//! - `linting`: texts are linted, and what is told is written (`Lints`);
+//! - `refused_lines`: what is told of the fault that ended another run, below its line (`RefusedLines`): a line of a text by its number
+//!   (`numbered_lines`, `NumberedLines`), as a terminal shows it, with a mark (`marked_lines`, `MarkedLines`) under what the fault is
+//!   about (`spelled_places`, `SpelledPlaces`).
 #![tactic(auto)]
 
 mod counts;
@@ -17,7 +20,11 @@ mod kept_texts;
 mod lint_lines;
 mod linting;
 mod lints;
+mod marked_lines;
 mod near_names;
+mod numbered_lines;
+mod refused_lines;
+mod spelled_places;
 mod surveyed;
 mod warning_lines;
 
@@ -25,3 +32,7 @@ pub use kept_texts::{MOST_TEXT_BYTES, keep_text};
 pub use lint_lines::write_lint;
 pub use linting::{lint, lint_texts};
 pub use lints::Lint;
+pub use marked_lines::MarkedLine;
+pub use refused_lines::{
+    RefusedLine, refused_alone, refused_at, refused_in_delta, refused_in_table, write_refused,
+};
