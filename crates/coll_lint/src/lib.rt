@@ -8,7 +8,7 @@
 //! - `first_faults`: the fault that a batch answers is told first;
 //! - `lint_lines`: how all is written (`LintLines`), with `warning_lines`: a line for each kind of warnings (`WarningLines`), and
 //!   `counts`: numbers with commas (`Counts`);
-//! - `linting`: texts are linted, and what is told is written (`Lints`).
+//! - `linting`: texts are linted, and what is told is written (`Lints`); `progress`: who is told meanwhile how far it got.
 #![tactic(auto)]
 
 mod counts;
@@ -18,10 +18,12 @@ mod lint_lines;
 mod linting;
 mod lints;
 mod near_names;
+mod progress;
 mod surveyed;
 mod warning_lines;
 
 pub use kept_texts::{MOST_TEXT_BYTES, keep_text};
 pub use lint_lines::write_lint;
-pub use linting::{lint, lint_texts};
+pub use linting::{lint, lint_texts, lint_watched};
 pub use lints::Lint;
+pub use progress::Progress;
