@@ -8,7 +8,7 @@
 //! - `first_faults`: the fault that a batch answers is told first;
 //! - `lint_lines`: how all is written (`LintLines`), with `warning_lines`: a line for each kind of warnings (`WarningLines`), and
 //!   `counts`: numbers with commas (`Counts`);
-//! - `linting`: texts are linted, and what is told is written (`Lints`);
+//! - `linting`: texts are linted, and what is told is written (`Lints`); `progress`: who is told meanwhile how far it got;
 //! - `refused_lines`: what is told of the fault that ended another run, below its line (`RefusedLines`): a line of a text by its number
 //!   (`numbered_lines`, `NumberedLines`), as a terminal shows it, with a mark (`marked_lines`, `MarkedLines`) under what the fault is
 //!   about (`spelled_places`, `SpelledPlaces`).
@@ -23,6 +23,7 @@ mod lints;
 mod marked_lines;
 mod near_names;
 mod numbered_lines;
+mod progress;
 mod refused_lines;
 mod spelled_places;
 mod surveyed;
@@ -30,9 +31,10 @@ mod warning_lines;
 
 pub use kept_texts::{MOST_TEXT_BYTES, keep_text};
 pub use lint_lines::write_lint;
-pub use linting::{lint, lint_texts};
+pub use linting::{lint, lint_texts, lint_watched};
 pub use lints::Lint;
 pub use marked_lines::MarkedLine;
+pub use progress::Progress;
 pub use refused_lines::{
     RefusedLine, refused_alone, refused_at, refused_in_delta, refused_in_table, write_refused,
 };

@@ -1,8 +1,9 @@
 //! A table, or a delta file over a table, is linted: all that is wrong with it is told, and not only the first fault.
 //!
-//! `lint` carries the theorem of a lint (`LintRuns`). The texts are judged as a batch judges them, and its answer decides whether a
-//! fault is told, and which one first. What else is told is found by a survey, and no fault is told twice. A table without fault is read
-//! once: the table that the batch gives is the one that is surveyed, and a delta file is judged over a copy of it.
+//! `lint` carries the theorem of a lint (`LintRuns`), and so does `lint_watched`, which tells meanwhile how far it got. The texts are
+//! judged as a batch judges them, and its answer decides whether a fault is told, and which one first. What else is told is found by a
+//! survey, and no fault is told twice. A table without fault is read once: the table that the batch gives is the one that is surveyed,
+//! and a delta file is judged over a copy of it.
 
 ghost use Rattle.std.specs.Prelude.{◌≡◌, ◌∷◌, [], true, Ok, map, string_bytes, option_map, option_to_list, IfOk, IfErr, false};
 ghost use Rattle.coll_devices.specs.Devices.{Sends};
@@ -18,6 +19,7 @@ use crate::first_faults::put_first;
 use crate::kept_texts::no_memory;
 use crate::lint_lines::write_lint;
 use crate::lints::Lint;
+use crate::progress::{Nobody, Progress, WatchedText};
 use crate::surveyed::told_of;
 use coll_bench::{Fault, RunFault, read_delta, read_inputs};
 use coll_devices::{Counted, Sink, WriteStop};
@@ -40,7 +42,23 @@ pub fn lint<W: Sink>(
     ensures { LintRuns (map string_bytes names.now) table.now (option_to_list (option_map (λ text. text.now) delta.entry))
         (W.taken output.old) (W.taken output.new) result }
 {
-    match lint_texts(alloc, keys, table, delta) {
+    lint_watched(alloc, keys, table, delta, names, output, &Nobody)
+}
+
+/// Writes all that is wrong with texts, as `lint` does, and tells `progress` how far it got.
+pub fn lint_watched<W: Sink, P: Progress>(
+    alloc: Global,
+    keys: HashKeys,
+    table: &[u8],
+    delta: Option<&[u8]>,
+    names: &[String],
+    output: &mut W,
+    progress: &P,
+) -> Result<bool, RunFault>
+    ensures { LintRuns (map string_bytes names.now) table.now (option_to_list (option_map (λ text. text.now) delta.entry))
+        (W.taken output.old) (W.taken output.new) result }
+{
+    match linted(alloc, keys, table, delta, progress) {
         Ok(lint) => {
             let wrote = write_told(&lint, names, output);
             drop(lint);
@@ -74,9 +92,28 @@ pub fn lint_texts(
 ) -> Result<Lint, RunFault>
     ensures { LintsTexts table.now (option_to_list (option_map (λ text. text.now) delta.entry)) result }
 {
-    match judged(alloc, keys, table) {
-        Ok(read) => lint_read(alloc, keys, read, table, delta),
-        Err(first) => lint_faulty(alloc, keys, first, table),
+    linted(alloc, keys, table, delta, &Nobody)
+}
+
+// All that is wrong with texts. It is told how much of the table was judged, and when the rest begins.
+fn linted<P: Progress>(
+    alloc: Global,
+    keys: HashKeys,
+    table: &[u8],
+    delta: Option<&[u8]>,
+    progress: &P,
+) -> Result<Lint, RunFault>
+    ensures { LintsTexts table.now (option_to_list (option_map (λ text. text.now) delta.entry)) result }
+{
+    match judged(alloc, keys, table, progress) {
+        Ok(read) => {
+            progress.surveys();
+            lint_read(alloc, keys, read, table, delta)
+        }
+        Err(first) => {
+            progress.surveys();
+            lint_faulty(alloc, keys, first, table)
+        }
     }
 }
 
@@ -215,10 +252,15 @@ fn is_of_no_text(ended: &RunFault) -> bool
 }
 
 // What a batch answers to a table, which is the one that it gives.
-fn judged(alloc: Global, keys: HashKeys, table: &[u8]) -> Result<Table, RunFault>
+fn judged<P: Progress>(
+    alloc: Global,
+    keys: HashKeys,
+    table: &[u8],
+    progress: &P,
+) -> Result<Table, RunFault>
     ensures { JudgesTable table.now result }
 {
-    let mut source = Counted::new(table);
+    let mut source = WatchedText::new(table, progress);
     match read_inputs(alloc, keys, &mut source, &mut []) {
         Ok(read) => Ok(read),
         Err(first) => Err(first),

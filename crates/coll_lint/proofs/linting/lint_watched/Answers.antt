@@ -3,7 +3,7 @@ use Rattle.std.proofs.Common.{map, string_bytes}
 use Rattle.std.specs.Option.{option_map}
 use Rattle.std.specs.Prelude.{option_to_list}
 use Rattle.coll_lint.proofs.LintCases.{stopped_runs, told_runs}
-use Rattle.coll_lint.proofs.linting.lint.Goals as goal
+use Rattle.coll_lint.proofs.linting.lint_watched.Goals as goal
 
 pub returns-in-Ok : goal.returns-in-Ok
 returns-in-Ok g c =

@@ -2,10 +2,10 @@
 use Rattle.std.specs.Option.{option_map}
 use Rattle.std.specs.Prelude.{option_to_list}
 use Rattle.coll_lint.proofs.LintCases.{behind_fault, refused}
-use Rattle.coll_lint.proofs.linting.lint_texts.Goals as goal
+use Rattle.coll_lint.proofs.linting.linted.Goals as goal
 
 pub returns-in-Err : goal.returns-in-Err
-returns-in-Err c =
+returns-in-Err g c =
     let texts = option_to_list (option_map (λ text. text.now) c.args.delta) in
     refused c.args.table.now texts c.in-Err.first c.lint_faulty.result (λ none. behind_fault c.args.table.now c.in-Err.first texts (c.in-Err.ensures none)) c.lint_faulty.ensures.text
     c.lint_faulty.ensures.begins c.lint_faulty.ensures.once c.lint_faulty.ensures.memory
