@@ -5,4 +5,5 @@ pub mod FoundRefusals
 pub mod LookUps
 pub mod NearLemmas
 pub mod NearSearch
+pub mod NearSections
 pub mod SectionTests

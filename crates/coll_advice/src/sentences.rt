@@ -241,7 +241,10 @@ fn session_advice(number: u8) -> Option<Advice>
             "OutOfMemory",
             "free memory, and make the line again; what it asks for changed nothing",
         ),
-        71 => row("StillNeeded", "withdraw the statement that it names first"),
+        71 => row(
+            "StillNeeded",
+            "the reply has the number of a statement that needs this one: withdraw that one before it",
+        ),
         72 => row("NoSuchStatement", "look for the number with :history"),
         73 => row(
             "NotASymbol",
