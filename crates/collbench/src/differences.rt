@@ -5,7 +5,9 @@
 
 ghost use Rattle.std.specs.Prelude.{◌≡◌, ◌<◌, length, IfErr};
 
-use crate::files::{Input, at_no_line, open_all};
+use crate::files::{Input, at_no_line, is_output_a_file, open_all};
+use crate::metered::MeteredSink;
+use crate::progress::{ProgressLine, Step};
 use crate::{Output, read_first, standard_output};
 use coll_bench::{Fault, RunFault};
 use coll_differences::{Differences, difference, write_difference};
@@ -25,8 +27,24 @@ pub(crate) fn tell_differences(
     requires { 0 < length files.now }
     ensures { IfErr result (λ fault. fault.input < length files.now) }
 {
-    match open_all(rt, files) {
-        Ok(mut inputs) => tell_between(rt, keys, inputs.as_mut_slice()),
+    let line = ProgressLine::new(rt);
+    let told = tell_by(rt, &line, keys, files);
+    line.end();
+    told
+}
+
+// Tells what differs between the table in the first of these files and that in the last, and a line how far that got.
+fn tell_by(
+    rt: &HostRuntime,
+    line: &ProgressLine<'_>,
+    keys: HashKeys,
+    files: &[&str],
+) -> Result<ExitCode, RunFault>
+    requires { 0 < length files.now }
+    ensures { IfErr result (λ fault. fault.input < length files.now) }
+{
+    match open_all(rt, Some(line), files) {
+        Ok(mut inputs) => tell_between(rt, line, keys, inputs.as_mut_slice()),
         Err(fault) => Err(fault),
     }
 }
@@ -34,14 +52,15 @@ pub(crate) fn tell_differences(
 // Tells what differs between the table in the first of these inputs and that in the last.
 fn tell_between(
     rt: &HostRuntime,
+    line: &ProgressLine<'_>,
     keys: HashKeys,
-    inputs: &mut [Input],
+    inputs: &mut [Input<'_>],
 ) -> Result<ExitCode, RunFault>
     requires { 0 < length inputs.old }
     ensures { IfErr result (λ fault. fault.input < length inputs.old) }
 {
     match read_first(rt, keys, inputs) {
-        Ok(first) => tell_from(rt, keys, inputs, &first),
+        Ok(first) => tell_from(rt, line, keys, inputs, &first),
         Err(fault) => Err(fault),
     }
 }
@@ -49,8 +68,9 @@ fn tell_between(
 // Tells what differs between a table and that in the last of these inputs.
 fn tell_from(
     rt: &HostRuntime,
+    line: &ProgressLine<'_>,
     keys: HashKeys,
-    inputs: &mut [Input],
+    inputs: &mut [Input<'_>],
     first: &Table,
 ) -> Result<ExitCode, RunFault>
     requires { 0 < length inputs.old }
@@ -58,7 +78,7 @@ fn tell_from(
 {
     let last = inputs.len() - 1;
     match read_at(rt, keys, inputs, last) {
-        Ok(second) => tell_of(rt, first, &second),
+        Ok(second) => tell_of(rt, line, first, &second),
         Err(fault) => Err(fault),
     }
 }
@@ -67,7 +87,7 @@ fn tell_from(
 pub(crate) fn read_at(
     rt: &HostRuntime,
     keys: HashKeys,
-    inputs: &mut [Input],
+    inputs: &mut [Input<'_>],
     place: usize,
 ) -> Result<Table, RunFault>
     requires { place < length inputs.old }
@@ -84,27 +104,43 @@ pub(crate) fn read_at(
 }
 
 // Tells what differs between two tables.
-fn tell_of(rt: &HostRuntime, first: &Table, second: &Table) -> Result<ExitCode, RunFault>
+fn tell_of(
+    rt: &HostRuntime,
+    line: &ProgressLine<'_>,
+    first: &Table,
+    second: &Table,
+) -> Result<ExitCode, RunFault>
     ensures { IfErr result (λ fault. fault.input ≡ 0) }
 {
+    line.begin(Step::Comparing);
     match difference(rt.alloc(), first, second) {
-        Ok(told) => tell(rt, &told),
+        Ok(told) => tell(rt, line, &told),
         Err(_) => Err(at_no_line(0, Fault::Lex(LexFault::OutOfMemory))),
     }
 }
 
 // Writes what differs to standard output.
-fn tell(rt: &HostRuntime, told: &Option<Differences<'_>>) -> Result<ExitCode, RunFault>
+fn tell(
+    rt: &HostRuntime,
+    line: &ProgressLine<'_>,
+    told: &Option<Differences<'_>>,
+) -> Result<ExitCode, RunFault>
     ensures { IfErr result (λ fault. fault.input ≡ 0) }
 {
     match standard_output(rt) {
-        Ok(mut output) => write_told(told, &mut output),
+        Ok(output) => {
+            let mut output = MeteredSink::new(output, line, is_output_a_file(rt));
+            write_told(told, &mut output)
+        }
         Err(fault) => Err(fault),
     }
 }
 
 // Writes what differs, and answers the exit status once all of it has left the buffer.
-fn write_told(told: &Option<Differences<'_>>, output: &mut Output) -> Result<ExitCode, RunFault>
+fn write_told(
+    told: &Option<Differences<'_>>,
+    output: &mut MeteredSink<'_, Output>,
+) -> Result<ExitCode, RunFault>
     ensures { IfErr result (λ fault. fault.input ≡ 0) }
 {
     let wrote = write_difference(output, told);

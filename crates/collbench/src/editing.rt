@@ -6,6 +6,7 @@
 ghost use Rattle.std.specs.Prelude.{◌≡◌, ◌<◌, length, IfErr};
 
 use crate::files::{Input, at_no_line, open_all};
+use crate::progress::ProgressLine;
 use crate::read_first;
 use crate::reasons::{ReasonedOutput, reason_of, reasoned_output};
 use crate::standard_input::ServesLines;
@@ -44,14 +45,19 @@ impl<'a> OpensFiles for SystemFiles<'a> {
 
 // An edit of the table in the first of some files, whose history begins with the statements of the others.
 impl ServesLines for Editor {
-    fn begin(rt: &HostRuntime, keys: HashKeys, files: &[&str]) -> Result<Editor, RunFault> {
-        match open_all(rt, files) {
+    fn begin(
+        rt: &HostRuntime,
+        _line: &ProgressLine<'_>,
+        keys: HashKeys,
+        files: &[&str],
+    ) -> Result<Editor, RunFault> {
+        match open_all(rt, None, files) {
             Ok(mut inputs) => begin_opened(rt, keys, inputs.as_mut_slice()),
             Err(fault) => Err(fault),
         }
     }
 
-    fn serve(mut self, rt: &HostRuntime) -> Result<(), RunFault> {
+    fn serve(mut self, rt: &HostRuntime, _line: &ProgressLine<'_>) -> Result<(), RunFault> {
         let ran = edit_standard_input(rt, &mut self);
         drop(self);
         ran
@@ -59,7 +65,11 @@ impl ServesLines for Editor {
 }
 
 // An edit of the table in the first of these inputs, behind the statements of the others.
-fn begin_opened(rt: &HostRuntime, keys: HashKeys, inputs: &mut [Input]) -> Result<Editor, RunFault>
+fn begin_opened(
+    rt: &HostRuntime,
+    keys: HashKeys,
+    inputs: &mut [Input<'_>],
+) -> Result<Editor, RunFault>
     requires { 0 < length inputs.old }
     ensures { IfErr result (λ fault. fault.input < length inputs.old) }
 {
@@ -79,7 +89,7 @@ fn begin_opened(rt: &HostRuntime, keys: HashKeys, inputs: &mut [Input]) -> Resul
 }
 
 // Puts the statements of the inputs behind the first.
-fn put_deltas(editor: &mut Editor, inputs: &mut [Input]) -> Result<(), RunFault>
+fn put_deltas(editor: &mut Editor, inputs: &mut [Input<'_>]) -> Result<(), RunFault>
     ensures { IfErr result (λ fault. fault.input < length inputs.old) }
 {
     for (number, delta) in inputs.iter_mut().enumerate() {

@@ -22,7 +22,7 @@ pub(crate) fn explain_texts(
     requires some { 0 < length files.now }
     requires names { length names.now ≡ length files.now }
 {
-    match read_table(rt, keys, files) {
+    match read_table(rt, None, keys, files) {
         Ok(table) => {
             let explained = explain_by(rt, &table, text, other);
             drop(table);

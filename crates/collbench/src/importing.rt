@@ -3,11 +3,15 @@
 //! What a source copies lies in its folder. Nothing is written to standard output where there is a fault; what was changed, and the
 //! fault, are told on standard error.
 
+ghost use Rattle.std.specs.Prelude.{◌≡◌, ◌<◌, length};
 ghost use Rattle.coll_devices.specs.Devices.{CountsErr, Sends};
 ghost use Rattle.collbench.specs.MadeTexts.{made_text};
 
-use crate::Output;
+use crate::files::{file_size, is_output_a_file, line_for};
 use crate::laws::written_deltas_are_accepted;
+use crate::metered::{MeteredSink, MeteredSource};
+use crate::progress::{ProgressLine, Step};
+use crate::{Output, read_table, tell_fault, tell_no_memory};
 use coll_bench::{Fault, exit_status};
 use coll_delta_texts::write_delta;
 use coll_import::{import_table, write_report, write_source_fault};
@@ -23,12 +27,11 @@ use std::process::ExitCode;
 // The name, in a source, that is defined where accents go backward.
 const BACKWARD: &str = "DIACRIT_BACKWARD";
 
-/// What a source is made into.
+// What a source is made into.
 #[derive(Drop)]
-pub(crate) enum Wanted {
-    /// A table.
+enum Wanted {
     Table,
-    /// A delta file for this table.
+    // A delta file for this table.
     Delta(Table),
 }
 
@@ -70,9 +73,84 @@ impl Made {
     }
 }
 
-/// Makes what is wanted of a source, where these names are defined, and prints it. The answer is the exit status.
-pub(crate) fn import(
+/// Makes a table of the source in the last of these files, where these names are defined, and prints it. The answer is the exit status.
+pub(crate) fn import_as_table(
     rt: &HostRuntime,
+    keys: HashKeys,
+    files: &[&str],
+    defined: &[TextBuf],
+) -> ExitCode
+    requires { 0 < length files.now }
+{
+    let line = ProgressLine::new(rt);
+    let status = import_from(rt, &line, keys, Wanted::Table, files, defined);
+    line.end();
+    status
+}
+
+/// Makes a delta file for the table in the first of these files of the source in the last, where these names are defined, and prints
+/// it. The answer is the exit status.
+pub(crate) fn import_as_delta(
+    rt: &HostRuntime,
+    keys: HashKeys,
+    files: &[&str],
+    names: &[String],
+    defined: &[TextBuf],
+) -> ExitCode
+    requires some { 0 < length files.now }
+    requires names { length names.now ≡ length files.now }
+{
+    let line = ProgressLine::new(rt);
+    let status = import_over(rt, &line, keys, files, names, defined);
+    line.end();
+    status
+}
+
+// Reads the table in the first of these files, and makes a delta file for it.
+fn import_over(
+    rt: &HostRuntime,
+    line: &ProgressLine<'_>,
+    keys: HashKeys,
+    files: &[&str],
+    names: &[String],
+    defined: &[TextBuf],
+) -> ExitCode
+    requires some { 0 < length files.now }
+    requires names { length names.now ≡ length files.now }
+{
+    match read_table(rt, Some(line), keys, &files[..1]) {
+        Ok(table) => import_from(rt, line, keys, Wanted::Delta(table), files, defined),
+        Err(fault) => {
+            line.hide();
+            tell_fault(rt, &fault, names)
+        }
+    }
+}
+
+// Makes what is wanted of the source in the last of these files, and answers the exit status.
+fn import_from(
+    rt: &HostRuntime,
+    line: &ProgressLine<'_>,
+    keys: HashKeys,
+    wanted: Wanted,
+    files: &[&str],
+    defined: &[TextBuf],
+) -> ExitCode
+    requires { 0 < length files.now }
+{
+    match import(rt, line, keys, wanted, files[files.len() - 1], defined) {
+        Ok(status) => status,
+        Err(_) => {
+            line.hide();
+            tell_no_memory(rt)
+        }
+    }
+}
+
+// Makes what is wanted of a source, where these names are defined, and prints it. The answer is the exit status.
+fn import(
+    rt: &HostRuntime,
+    line: &ProgressLine<'_>,
     keys: HashKeys,
     wanted: Wanted,
     file: &str,
@@ -80,7 +158,7 @@ pub(crate) fn import(
 ) -> Result<ExitCode, AllocError> {
     let (folder, base) = folder_of(file);
     match reader_of(rt.alloc(), keys, wanted.kind(), base, defined) {
-        Ok(reader) => import_by(rt, keys, wanted, reader, folder),
+        Ok(reader) => import_by(rt, line, keys, wanted, reader, folder),
         Err(error) => {
             drop(wanted);
             Err(error)
@@ -105,16 +183,17 @@ fn reader_of(
 // Reads a source that lies in this folder, with what it copies, makes what is wanted of it, and prints that.
 fn import_by(
     rt: &HostRuntime,
+    line: &ProgressLine<'_>,
     keys: HashKeys,
     wanted: Wanted,
     reader: SourceReader,
     folder: &str,
 ) -> Result<ExitCode, AllocError> {
     let mut reader = reader;
-    let read = read_texts(rt, &mut reader, folder);
+    let read = read_texts(rt, line, &mut reader, folder);
     match file_names(rt.alloc(), &reader, folder) {
         Ok(files) => {
-            let status = finish(rt, keys, wanted, reader, read, files.as_slice());
+            let status = finish(rt, line, keys, wanted, reader, read, files.as_slice());
             drop(files);
             Ok(status)
         }
@@ -129,6 +208,7 @@ fn import_by(
 // Prints what is made of a source, or tells the fault with which it was read or made.
 fn finish(
     rt: &HostRuntime,
+    line: &ProgressLine<'_>,
     keys: HashKeys,
     wanted: Wanted,
     reader: SourceReader,
@@ -136,11 +216,11 @@ fn finish(
     files: &[String],
 ) -> ExitCode {
     match read {
-        Ok(()) => make(rt, keys, wanted, reader, files),
+        Ok(()) => make(rt, line, keys, wanted, reader, files),
         Err(fault) => {
             drop(wanted);
             drop(reader);
-            tell(rt, &fault, files)
+            tell(rt, line, &fault, files)
         }
     }
 }
@@ -148,6 +228,7 @@ fn finish(
 // Makes what is wanted of a source that is read, and prints it, or tells the fault.
 fn make(
     rt: &HostRuntime,
+    line: &ProgressLine<'_>,
     keys: HashKeys,
     wanted: Wanted,
     reader: SourceReader,
@@ -155,13 +236,14 @@ fn make(
 ) -> ExitCode {
     let backward = reader.defines(BACKWARD);
     let (lines, mut report) = reader.into_parts();
+    line.begin(Step::Importing);
     let status = match made_of(rt.alloc(), keys, wanted, lines, backward, &mut report) {
         Ok(made) => {
-            let status = print(rt, &made, &report, files);
+            let status = print(rt, line, &made, &report, files);
             drop(made);
             status
         }
-        Err(fault) => tell(rt, &fault, files),
+        Err(fault) => tell(rt, line, &fault, files),
     };
     drop(report);
     status
@@ -206,6 +288,7 @@ fn lent(alloc: Global, texts: &[TextBuf]) -> Result<Vec<&str>, AllocError> {
 // Reads each text that is wanted.
 fn read_texts(
     rt: &HostRuntime,
+    line: &ProgressLine<'_>,
     reader: &mut SourceReader,
     folder: &str,
 ) -> Result<(), SourceFault> {
@@ -217,7 +300,8 @@ fn read_texts(
         let Ok(file) = File::open(rt, path.as_str()) else {
             return Err(reader.unread());
         };
-        reader.take_text(&mut Counted::new(file))?;
+        let (line, size) = (line_for(&file, Some(line)), file_size(&file));
+        reader.take_text(&mut MeteredSource::new(Counted::new(file), line, size))?;
     }
     Ok(())
 }
@@ -239,14 +323,21 @@ fn file_names(
 }
 
 // Prints what was made, and tells what was changed for it. All memory is taken first.
-fn print(rt: &HostRuntime, made: &Made, report: &Report, files: &[String]) -> ExitCode {
+fn print(
+    rt: &HostRuntime,
+    line: &ProgressLine<'_>,
+    made: &Made,
+    report: &Report,
+    files: &[String],
+) -> ExitCode {
     let (Ok(output), Ok(told)) = (
         BufWriter::new(rt.alloc(), rt.stdout()),
         BufWriter::new(rt.alloc(), rt.stderr()),
     ) else {
-        return tell(rt, &nowhere(LoadCause::OutOfMemory), files);
+        return tell(rt, line, &nowhere(LoadCause::OutOfMemory), files);
     };
-    if !write_whole(made, Counted::new(output)) {
+    let output = MeteredSink::new(Counted::new(output), line, is_output_a_file(rt));
+    if !write_whole(made, output) {
         return tell_unwritten(rt, files);
     }
     let mut told = Counted::new(told);
@@ -265,7 +356,7 @@ fn tell_unwritten(rt: &HostRuntime, files: &[String]) -> ExitCode {
 }
 
 // Writes what was made, and answers whether all of it has left the buffer.
-fn write_whole(made: &Made, output: Output) -> bool {
+fn write_whole(made: &Made, output: MeteredSink<'_, Output>) -> bool {
     let mut output = output;
     let wrote = made.write(&mut output);
     let flushed = output.flush();
@@ -273,7 +364,13 @@ fn write_whole(made: &Made, output: Output) -> bool {
 }
 
 // Tells a fault, and answers the exit status.
-fn tell(rt: &HostRuntime, fault: &SourceFault, files: &[String]) -> ExitCode {
+fn tell(
+    rt: &HostRuntime,
+    line: &ProgressLine<'_>,
+    fault: &SourceFault,
+    files: &[String],
+) -> ExitCode {
+    line.hide();
     let _ = write_source_fault(&mut Counted::new(rt.stderr()), fault, files);
     ExitCode::from(match fault.cause.number() {
         67 | 68 => 2,

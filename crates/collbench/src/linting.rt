@@ -5,12 +5,14 @@
 
 ghost use Rattle.std.specs.Prelude.{◌≡◌, ◌<◌, length};
 
-use crate::files::at_no_line;
+use crate::files::{at_no_line, file_size, is_output_a_file, line_for};
+use crate::metered::{MeteredSink, MeteredSource};
+use crate::progress::{ProgressLine, Step};
 use crate::reasons::{Reasoned, ReasonedOutput, reason_of, reasoned_output};
 use coll_bench::{Fault, RunFault, exit_status};
 use coll_edit::FileReason;
 use coll_lex::{ReadStop, Sink, WriteStop};
-use coll_lint::{keep_text, lint};
+use coll_lint::{Progress, keep_text, lint_watched};
 use coll_table::HashKeys;
 use std::fs::File;
 use std::io::ErrorKind;
@@ -39,7 +41,10 @@ pub(crate) fn lint_files(
     requires some { 0 < length files.now }
     requires names { length names.now ≡ length files.now }
 {
-    match open_and_lint(rt, keys, files, names) {
+    let line = ProgressLine::new(rt);
+    let linted = open_and_lint(rt, &line, keys, files, names);
+    line.end();
+    match linted {
         Ok(true) => ExitCode::from(AT_FAULT),
         Ok(false) => ExitCode::SUCCESS,
         Err(refused) => tell_refused(rt, &refused, names),
@@ -70,28 +75,46 @@ fn told_reason(reason: Option<ErrorKind>) -> Option<&'static str> {
 }
 
 // Opens the files and reads them, and tells all that is wrong with them.
-fn open_and_lint(rt: &HostRuntime, keys: HashKeys, files: &[&str], names: &[String]) -> Linted
+fn open_and_lint(
+    rt: &HostRuntime,
+    line: &ProgressLine<'_>,
+    keys: HashKeys,
+    files: &[&str],
+    names: &[String],
+) -> Linted
     requires { 0 < length files.now }
 {
-    let mut table = open(rt, 0, files[0])?;
+    let mut table = open(rt, line, 0, files[0])?;
     match files.get(1) {
         Some(file) => {
-            let mut delta = open(rt, 1, *file)?;
+            let mut delta = open(rt, line, 1, *file)?;
             let table = keep(rt, 0, &mut table)?;
             let delta = keep(rt, 1, &mut delta)?;
-            lint_to_standard_output(rt, keys, table.as_slice(), Some(delta.as_slice()), names)
+            let (table, delta) = (table.as_slice(), Some(delta.as_slice()));
+            lint_to_standard_output(rt, line, keys, table, delta, names)
         }
         None => {
             let table = keep(rt, 0, &mut table)?;
-            lint_to_standard_output(rt, keys, table.as_slice(), None, names)
+            lint_to_standard_output(rt, line, keys, table.as_slice(), None, names)
         }
     }
 }
 
-// Opens the file of an input.
-fn open(rt: &HostRuntime, input: usize, name: &str) -> Result<Reasoned<File>, Refused> {
+// A file that is read, with why that fails.
+type Opened<'a> = MeteredSource<'a, Reasoned<File>>;
+
+// Opens the file of an input, whose bytes this line is told of.
+fn open<'a>(
+    rt: &HostRuntime,
+    line: &'a ProgressLine<'a>,
+    input: usize,
+    name: &str,
+) -> Result<Opened<'a>, Refused> {
     match File::open(rt, name) {
-        Ok(file) => Ok(Reasoned::new(file)),
+        Ok(file) => {
+            let (line, size) = (line_for(&file, Some(line)), file_size(&file));
+            Ok(MeteredSource::new(Reasoned::new(file), line, size))
+        }
         Err(error) => Err(Refused {
             fault: at_no_line(input, Fault::Read(ReadStop::ReadFault)),
             reason: Some(error.kind()),
@@ -100,12 +123,12 @@ fn open(rt: &HostRuntime, input: usize, name: &str) -> Result<Reasoned<File>, Re
 }
 
 // Reads the file of an input whole.
-fn keep(rt: &HostRuntime, input: usize, source: &mut Reasoned<File>) -> Result<Vec<u8>, Refused> {
+fn keep(rt: &HostRuntime, input: usize, source: &mut Opened<'_>) -> Result<Vec<u8>, Refused> {
     match keep_text(rt.alloc(), input, source) {
         Ok(text) => Ok(text),
         Err(fault) => Err(Refused {
             fault,
-            reason: source.reason(),
+            reason: source.source().reason(),
         }),
     }
 }
@@ -113,15 +136,17 @@ fn keep(rt: &HostRuntime, input: usize, source: &mut Reasoned<File>) -> Result<V
 // Tells all that is wrong with texts on standard output. Where nobody reads that any longer, all is told that is asked for.
 fn lint_to_standard_output(
     rt: &HostRuntime,
+    line: &ProgressLine<'_>,
     keys: HashKeys,
     table: &[u8],
     delta: Option<&[u8]>,
     names: &[String],
 ) -> Linted {
     match reasoned_output(rt) {
-        Ok(mut output) => {
-            let told = lint_to(rt, keys, table, delta, names, &mut output);
-            if output.is_closed() {
+        Ok(output) => {
+            let mut output = MeteredSink::new(output, line, is_output_a_file(rt));
+            let told = lint_to(rt, line, keys, table, delta, names, &mut output);
+            if output.sink().is_closed() {
                 return Ok(false);
             }
             unexplained(told)
@@ -133,13 +158,14 @@ fn lint_to_standard_output(
 // Tells all that is wrong with texts. What was written has left the buffer in the end; where that fails, it is the fault.
 fn lint_to(
     rt: &HostRuntime,
+    line: &ProgressLine<'_>,
     keys: HashKeys,
     table: &[u8],
     delta: Option<&[u8]>,
     names: &[String],
-    output: &mut ReasonedOutput,
+    output: &mut MeteredSink<'_, ReasonedOutput>,
 ) -> Result<bool, RunFault> {
-    let told = lint(rt.alloc(), keys, table, delta, names, output);
+    let told = lint_watched(rt.alloc(), keys, table, delta, names, output, line);
     match output.flush() {
         Ok(()) => told,
         Err(_) => Err(at_no_line(0, Fault::Write(WriteStop::WriteFault))),
@@ -154,5 +180,15 @@ fn unexplained(told: Result<bool, RunFault>) -> Linted {
             fault,
             reason: None,
         }),
+    }
+}
+
+impl Progress for ProgressLine<'_> {
+    fn judged(&self, bytes: usize, all: usize) {
+        self.tell(Step::Judging(bytes as u64, all as u64));
+    }
+
+    fn surveys(&self) {
+        self.begin(Step::Surveying);
     }
 }

@@ -4,8 +4,9 @@
 //! words name, `importing` makes tables and delta files of sources, `explaining` tells why texts compare as they do, `standard_input`
 //! is what serves lines, as `sessions`, `words`, which sorts them, and `editing`, which serves a person; `reviews` tells what
 //! statements do to words, `differences` compares two tables, and `linting` tells all that is wrong with one; `reasons` has why the
-//! system refuses a file. Here the runs are started, and their faults are told: a line on standard error, and the exit status, which
-//! stands also where that line can't be written.
+//! system refuses a file; `progress` is the line that says how far a run got, which the readers and writers of `metered` tell. Here the
+//! runs are started, and their faults are told: a line on standard error, and the exit status, which stands also where that line can't
+//! be written.
 #![tactic(auto)]
 
 ghost use Rattle.std.specs.Prelude.{◌<◌, length, vec_len, IfOk, IfErr, ◌≡◌};
@@ -17,6 +18,8 @@ mod files;
 mod importing;
 mod laws;
 mod linting;
+mod metered;
+mod progress;
 mod random_keys;
 mod reasons;
 mod reviews;
@@ -28,13 +31,14 @@ use coll_bench::{Batch, Fault, RunFault, exit_status, read_inputs, run_batch_key
 use coll_command_line::{Request, Task, Unasked, read_words};
 use coll_edit::Editor;
 use coll_import::write_symbols_behind;
-use coll_lex::{Counted, LexFault, ReadStop, Sink, TextBuf, WriteStop};
+use coll_lex::{Counted, LexFault, ReadStop, Sink, WriteStop};
 use coll_table::{HashKeys, Table};
 use differences::{read_at, tell_differences};
 use explaining::explain_texts;
 use files::{Input, at_no_line, open_all};
-use importing::{Wanted, import};
+use importing::{import_as_delta, import_as_table};
 use linting::lint_files;
+use progress::ProgressLine;
 use random_keys::random_keys;
 use reviews::review;
 use sessions::SessionOver;
@@ -119,27 +123,8 @@ fn do_keyed(
             Ok(status) => status,
             Err(fault) => tell_fault(rt, &fault, names),
         },
-        Task::Import(defined) => import_from(rt, keys, Wanted::Table, files, defined.get()),
-        Task::ImportDelta(defined) => match read_table(rt, keys, &files[..1]) {
-            Ok(table) => import_from(rt, keys, Wanted::Delta(table), files, defined.get()),
-            Err(fault) => tell_fault(rt, &fault, names),
-        },
-    }
-}
-
-// Makes what is wanted of the source in the last of these files, where these names are defined, and answers the exit status.
-fn import_from(
-    rt: &HostRuntime,
-    keys: HashKeys,
-    wanted: Wanted,
-    files: &[&str],
-    defined: &[TextBuf],
-) -> ExitCode
-    requires { 0 < length files.now }
-{
-    match import(rt, keys, wanted, files[files.len() - 1], defined) {
-        Ok(status) => status,
-        Err(_) => tell_no_memory(rt),
+        Task::Import(defined) => import_as_table(rt, keys, files, defined.get()),
+        Task::ImportDelta(defined) => import_as_delta(rt, keys, files, names, defined.get()),
     }
 }
 
@@ -196,7 +181,7 @@ fn run_on_files(
     requires { 0 < length files.now }
     ensures { IfErr result (λ fault. fault.input < length files.now) }
 {
-    match open_all(rt, files) {
+    match open_all(rt, None, files) {
         Ok(mut inputs) => run_on_inputs(rt, keys, batch, inputs.as_mut_slice()),
         Err(fault) => Err(fault),
     }
@@ -207,7 +192,7 @@ fn run_on_inputs(
     rt: &HostRuntime,
     keys: HashKeys,
     batch: Batch,
-    inputs: &mut [Input],
+    inputs: &mut [Input<'_>],
 ) -> Result<Table, RunFault>
     requires { 0 < length inputs.old }
     ensures { IfErr result (λ fault. fault.input < length inputs.old) }
@@ -224,7 +209,7 @@ fn write_batch(
     rt: &HostRuntime,
     keys: HashKeys,
     batch: Batch,
-    inputs: &mut [Input],
+    inputs: &mut [Input<'_>],
     output: &mut Output,
 ) -> Result<Table, RunFault>
     requires { 0 < length inputs.old }
@@ -238,19 +223,28 @@ fn write_batch(
     }
 }
 
-// The table in the first of these files, rewritten by the others.
-fn read_table(rt: &HostRuntime, keys: HashKeys, files: &[&str]) -> Result<Table, RunFault>
+// The table in the first of these files, rewritten by the others. This line is told how many bytes were read, if one is.
+fn read_table(
+    rt: &HostRuntime,
+    line: Option<&ProgressLine<'_>>,
+    keys: HashKeys,
+    files: &[&str],
+) -> Result<Table, RunFault>
     requires { 0 < length files.now }
     ensures { IfErr result (λ fault. fault.input < length files.now) }
 {
-    match open_all(rt, files) {
+    match open_all(rt, line, files) {
         Ok(mut inputs) => read_opened(rt, keys, inputs.as_mut_slice()),
         Err(fault) => Err(fault),
     }
 }
 
 // The table in the first of these inputs, rewritten by the others.
-fn read_opened(rt: &HostRuntime, keys: HashKeys, inputs: &mut [Input]) -> Result<Table, RunFault>
+fn read_opened(
+    rt: &HostRuntime,
+    keys: HashKeys,
+    inputs: &mut [Input<'_>],
+) -> Result<Table, RunFault>
     requires { 0 < length inputs.old }
     ensures { IfErr result (λ fault. fault.input < length inputs.old) }
 {
@@ -259,7 +253,7 @@ fn read_opened(rt: &HostRuntime, keys: HashKeys, inputs: &mut [Input]) -> Result
 }
 
 // The table in the first of these inputs.
-fn read_first(rt: &HostRuntime, keys: HashKeys, inputs: &mut [Input]) -> Result<Table, RunFault>
+fn read_first(rt: &HostRuntime, keys: HashKeys, inputs: &mut [Input<'_>]) -> Result<Table, RunFault>
     requires { 0 < length inputs.old }
     ensures { IfErr result (λ fault. fault.input ≡ 0) }
 {

@@ -2,6 +2,7 @@
 
 ghost use Rattle.std.specs.Prelude.{◌≡◌, ◌<◌, length, IfErr};
 
+use crate::progress::ProgressLine;
 use crate::standard_input::ServesLines;
 use crate::{Output, read_table, standard_output};
 use coll_bench::{RunFault, run_session};
@@ -15,14 +16,19 @@ pub(crate) struct SessionOver {
 }
 
 impl ServesLines for SessionOver {
-    fn begin(rt: &HostRuntime, keys: HashKeys, files: &[&str]) -> Result<SessionOver, RunFault> {
-        match read_table(rt, keys, files) {
+    fn begin(
+        rt: &HostRuntime,
+        _line: &ProgressLine<'_>,
+        keys: HashKeys,
+        files: &[&str],
+    ) -> Result<SessionOver, RunFault> {
+        match read_table(rt, None, keys, files) {
             Ok(table) => Ok(SessionOver { table }),
             Err(fault) => Err(fault),
         }
     }
 
-    fn serve(self, rt: &HostRuntime) -> Result<(), RunFault> {
+    fn serve(self, rt: &HostRuntime, _line: &ProgressLine<'_>) -> Result<(), RunFault> {
         serve_standard_input(rt, self.table)
     }
 }

@@ -5,6 +5,7 @@
 
 ghost use Rattle.std.specs.Prelude.{◌≡◌, ◌<◌, length, IfErr};
 
+use crate::progress::ProgressLine;
 use crate::{status, tell_fault, tell_no_memory};
 use coll_bench::RunFault;
 use coll_table::HashKeys;
@@ -16,12 +17,17 @@ const STANDARD_INPUT: &str = "-";
 /// What serves the lines of standard input by the table in the first of some files.
 pub(crate) trait ServesLines: Drop {
     /// Reads the files with these names.
-    fn begin(rt: &HostRuntime, keys: HashKeys, files: &[&str]) -> Result<Self, RunFault>
+    fn begin(
+        rt: &HostRuntime,
+        line: &ProgressLine<'_>,
+        keys: HashKeys,
+        files: &[&str],
+    ) -> Result<Self, RunFault>
         requires { 0 < length files.now }
         ensures { IfErr result (λ fault. fault.input < length files.now) };
 
     /// Serves the lines.
-    fn serve(self, rt: &HostRuntime) -> Result<(), RunFault>
+    fn serve(self, rt: &HostRuntime, line: &ProgressLine<'_>) -> Result<(), RunFault>
         ensures { IfErr result (λ fault. fault.input ≡ 0) };
 }
 
@@ -36,10 +42,38 @@ pub(crate) fn serve_input<S: ServesLines>(
     requires names { length names.now ≡ length files.now }
 {
     match String::from_str(rt.alloc(), STANDARD_INPUT) {
-        Ok(name) => match S::begin(rt, keys, files) {
-            Ok(served) => status(rt, served.serve(rt), &[name]),
-            Err(fault) => tell_fault(rt, &fault, names),
-        },
+        Ok(name) => {
+            let line = ProgressLine::new(rt);
+            let status = serve_by::<S>(rt, &line, keys, files, names, name);
+            line.end();
+            status
+        }
         Err(_) => tell_no_memory(rt),
+    }
+}
+
+// Serves the lines of standard input, which has this name, and tells a line how far that got.
+fn serve_by<S: ServesLines>(
+    rt: &HostRuntime,
+    line: &ProgressLine<'_>,
+    keys: HashKeys,
+    files: &[&str],
+    names: &[String],
+    name: String,
+) -> ExitCode
+    requires some { 0 < length files.now }
+    requires names { length names.now ≡ length files.now }
+{
+    match S::begin(rt, line, keys, files) {
+        Ok(served) => {
+            let ran = served.serve(rt, line);
+            line.hide();
+            status(rt, ran, &[name])
+        }
+        Err(fault) => {
+            line.hide();
+            drop(name);
+            tell_fault(rt, &fault, names)
+        }
     }
 }

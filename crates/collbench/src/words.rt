@@ -2,13 +2,16 @@
 
 ghost use Rattle.std.specs.Prelude.{◌≡◌, ◌<◌, length, IfErr};
 
-use crate::files::at_no_line;
+use crate::files::{at_no_line, is_output_a_file, line_for, standard_input_size};
+use crate::metered::{MeteredSink, MeteredSource};
+use crate::progress::{ProgressLine, Step};
 use crate::standard_input::ServesLines;
 use crate::{Output, read_table, standard_output};
 use coll_bench::{Fault, RunFault};
 use coll_lex::{Counted, Sink, WriteStop};
 use coll_table::{HashKeys, Table};
 use coll_words::sort_lines;
+use std::io::Stdin;
 
 /// A sort by the table in the first of some files, rewritten by the others.
 #[derive(Drop)]
@@ -17,38 +20,67 @@ pub(crate) struct SortBy {
 }
 
 impl ServesLines for SortBy {
-    fn begin(rt: &HostRuntime, keys: HashKeys, files: &[&str]) -> Result<SortBy, RunFault> {
-        match read_table(rt, keys, files) {
+    fn begin(
+        rt: &HostRuntime,
+        line: &ProgressLine<'_>,
+        keys: HashKeys,
+        files: &[&str],
+    ) -> Result<SortBy, RunFault> {
+        match read_table(rt, Some(line), keys, files) {
             Ok(table) => Ok(SortBy { table }),
             Err(fault) => Err(fault),
         }
     }
 
-    fn serve(self, rt: &HostRuntime) -> Result<(), RunFault> {
-        let sorted = sort_standard_input(rt, &self.table);
+    fn serve(self, rt: &HostRuntime, line: &ProgressLine<'_>) -> Result<(), RunFault> {
+        let sorted = sort_standard_input(rt, line, &self.table);
         drop(self);
         sorted
     }
 }
 
 // Sorts the lines of standard input by a table, to standard output.
-fn sort_standard_input(rt: &HostRuntime, table: &Table) -> Result<(), RunFault>
+fn sort_standard_input(
+    rt: &HostRuntime,
+    line: &ProgressLine<'_>,
+    table: &Table,
+) -> Result<(), RunFault>
     ensures { IfErr result (λ fault. fault.input ≡ 0) }
 {
     match standard_output(rt) {
-        Ok(mut output) => sort_to(rt, table, &mut output),
+        Ok(output) => {
+            let mut output = MeteredSink::new(output, line, is_output_a_file(rt));
+            sort_to(rt, line, table, &mut output)
+        }
         Err(fault) => Err(fault),
     }
 }
 
 // Sorts the lines of standard input by a table. What it wrote has left the buffer in the end; where that fails, it is the fault.
-fn sort_to(rt: &HostRuntime, table: &Table, output: &mut Output) -> Result<(), RunFault>
+fn sort_to(
+    rt: &HostRuntime,
+    line: &ProgressLine<'_>,
+    table: &Table,
+    output: &mut MeteredSink<'_, Output>,
+) -> Result<(), RunFault>
     ensures { IfErr result (λ fault. fault.input ≡ 0) }
 {
-    let mut lines = Counted::new(rt.stdin());
+    let mut lines = standard_input(rt, line);
     let sorted = sort_lines(rt.alloc(), table, &mut lines, output);
     match output.flush() {
         Ok(()) => sorted,
         Err(_) => Err(at_no_line(0, Fault::Write(WriteStop::WriteFault))),
     }
+}
+
+// Standard input, whose lines are sorted once all are read.
+fn standard_input<'a>(
+    rt: &HostRuntime,
+    line: &'a ProgressLine<'a>,
+) -> MeteredSource<'a, Counted<Stdin>> {
+    let input = rt.stdin();
+    let line = line_for(&input, Some(line));
+    let mut lines = MeteredSource::new(Counted::new(input), line, standard_input_size(rt));
+    lines.lead_to(Step::Sorting);
+    lines
 }
