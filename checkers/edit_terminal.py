@@ -43,6 +43,10 @@ reorder-after <U0061>
 reorder-end
 END LC_COLLATE
 """
+OPEN_BLOCK = (
+    "end the block by reorder-end, and take it back by :undo if the reply is ok; "
+    "the end of the input, Ctrl-D at a terminal, drops it and ends the edit"
+)
 # Each session: the words behind the program, the steps, what stands on the screen at the end, and the files that are there then.
 SESSIONS = [
     (
@@ -56,6 +60,10 @@ SESSIONS = [
             ("reorder-after <U0061>", "block> "),
             ("<BASF>", "block> "),
             ("reorder-end", "refused 34 NotDeclared\nline 1 of the block: 34 NotDeclared <BASF>: declare it with collating-symbol; is <BASE> meant?\n> "),
+            ("reorder-after b", "block> "),
+            ("d d,d", "line 1 of the block: 29 BadOperand: compare with how the line is spelled; a range (..) has to be written out\nblock> "),
+            ("reorder-end", "refused 29 BadOperand\n> "),
+            ("quit", "refused 20 UnknownStatement\n20 UnknownStatement: is :quit meant?\n> "),
             (":write new.txt", "written 1\n> "),
             (":write new.txt", "refused 68 WriteFault\n68 WriteFault new.txt: a file with this name is there already\n> "),
         ],
@@ -72,7 +80,7 @@ SESSIONS = [
             ("# a comment", "> "),
             ("reorder-after \\", "> "),
             ("a", "block> "),
-            (":quit", "refused 62 BlockOpen\n62 BlockOpen: end the block by reorder-end; put the line before it or behind\nblock> "),
+            (":quit", f"refused 62 BlockOpen\n62 BlockOpen: {OPEN_BLOCK}\nblock> "),
             ("reorder-end", "ok 1\n> "),
         ],
         ":quit\n",

@@ -3,7 +3,7 @@
 //! An `Editor` is a session, and beside it whether a line of `edit` was answered. The session takes each line; the request that it
 //! completes is answered by the session, or, where that refuses it and the line is one of `edit`, by that line.
 
-ghost use Rattle.std.specs.Prelude.{◌≡◌, ◌+◌, ◌<◌, ℕ, Bool, [], chars, true, IfErr, IfOk, IfSome, List, Ok, OnOk, Option, Some, option_to_list};
+ghost use Rattle.std.specs.Prelude.{◌≡◌, ◌≢◌, ◌+◌, ◌<◌, ℕ, Bool, [], chars, true, IfErr, IfOk, IfSome, List, Ok, OnOk, Option, Some, option_to_list};
 ghost use Rattle.coll_devices.specs.Devices.{Sends};
 ghost use Rattle.coll_lex.specs.Limits.{most_lines};
 ghost use Rattle.coll_lex.specs.LogicalLines.{number_of, pending};
@@ -15,10 +15,11 @@ ghost use Rattle.coll_bench.specs.Replies.{refused_lines};
 ghost use Rattle.coll_bench.specs.Serving.{FinishesWith, IsCutOff, history_after_all, replies_to, too_long};
 ghost use Rattle.coll_bench.specs.Serving.{block_of, history_of, lexer_of, write_failed as failed_write};
 ghost use Rattle.coll_history.specs.Histories.{begun, judged, table_now};
+ghost use Rattle.coll_history.specs.declared.history_faults.BenchFault.TheVariants.{HistoryFull};
 ghost use Rattle.coll_table.specs.Delta.{delta as delta_of};
 ghost use Rattle.coll_lex.specs.declared.faults.LexFault.TheVariants.{OutOfMemory};
 ghost use Rattle.coll_bench.specs.BatchOutcome.{after_delta, fault_in, judged_at, statements_of};
-ghost use Rattle.coll_bench.specs.BatchReading.{FailsAs};
+ghost use Rattle.coll_bench.specs.BatchReading.{DeltaFails, FailsAs};
 ghost use Rattle.coll_bench.specs.BatchRuns.{ending_of};
 ghost use Rattle.coll_bench.specs.declared.faults.Fault.TheVariants as lex_fault;
 ghost use Rattle.coll_edit.specs.Editing.{AnswersRequest, EditsLine, IsLeft, IsLook, PutsBehind, has_answered as answered_by, run_of};
@@ -31,11 +32,12 @@ ghost use Rattle.coll_edit.specs.Watching.{device_of};
 use crate::copies::copied_statement;
 use crate::devices::OpensFiles;
 use crate::help::{write_help, write_number_help};
-use crate::messages::{Origin, end_prompt, prompt, tell_refusal};
+use crate::messages::{Hint, Origin, end_prompt, hint_for, prompt, tell_refusal};
 use crate::own_lines::{OwnLine, own_line};
 use crate::replies::{flush, write_count, write_refusal};
 use crate::showing::write_shown;
 use crate::statements::write_statements;
+use crate::typed_lines::{LineFault, TypedLines};
 use crate::watched::Watched;
 use crate::word_keys::are_few;
 use crate::word_lists::write_words;
@@ -55,6 +57,7 @@ use std::alloc::{AllocError, Global};
 #[derive(Drop)]
 pub struct Editor {
     run: RunState,
+    typed: TypedLines,
     // How many physical lines were taken.
     lines: u32,
     // Whether a line of `edit` was answered.
@@ -80,13 +83,20 @@ impl Editor {
         ensures history { IfOk result (λ editor. history_of (run_of editor) ≡ begun (collation table)) }
     {
         let run = RunState::new(alloc, table)?;
-        Ok(Editor {
-            run,
-            lines: 0,
-            answered: false,
-            full: false,
-            alloc,
-        })
+        match TypedLines::new(alloc) {
+            Ok(typed) => Ok(Editor {
+                run,
+                typed,
+                lines: 0,
+                answered: false,
+                full: false,
+                alloc,
+            }),
+            Err(refused) => {
+                drop(run);
+                Err(refused)
+            }
+        }
     }
 
     /// Puts the statements of a delta file, the input with this number, behind those that remain.
@@ -99,6 +109,8 @@ impl Editor {
         ensures unserved { OnOk result ((text : List ℕ) → R.left delta.old ≡ Some text → IsUnserved self.old → IsUnserved self.new) }
         ensures file { OnOk result ((text : List ℕ) → R.left delta.old ≡ Some text
             → after_delta input (table_now (history_of (run_of self.old))) text ≡ Ok (table_now (history_of (run_of self.new)))) }
+        ensures fault { IfErr result (λ ended. ended.fault ≢ lex_fault.Bench HistoryFull → (text : List ℕ) → R.left delta.old ≡ Some text
+            → DeltaFails (ending_of ended) input (table_now (history_of (run_of self.old))) text (R.left delta.new) ended) }
         ensures input { IfErr result (λ ended. ended.input ≡ input) }
     {
         match read_delta(self.alloc, input, self, delta) {
@@ -163,10 +175,15 @@ impl Editor {
         ensures input { IfErr result (λ ended. ended.input ≡ 0) }
     {
         output.forget();
+        let was_open = self.run.is_open();
+        self.typed.read(self.alloc, line);
         match self.run.take(self.alloc, line, output) {
             Ok(request) => {
                 self.lines = self.lines.saturating_add(1);
-                self.serve_request(line, request, output, messages, files)
+                let completes = request.is_some();
+                let served = self.serve_request(line, request, output, messages, files);
+                self.tell_line(was_open, completes, messages);
+                served
             }
             Err(ended) => {
                 self.tell_told(output, messages, Origin::Here);
@@ -263,7 +280,21 @@ impl Editor {
         }
     }
 
-    // Tells what the refusal says that was told, if one was: the first thing found that is refused so, or the line that it comes from.
+    // Tells the fault of the line that was taken where no reply tells it there.
+    fn tell_line<M: Sink>(&mut self, was_open: bool, completes: bool, messages: &mut M)
+        ensures run { run_of self.new ≡ run_of self.old }
+        ensures answered { answered_by self.new ≡ answered_by self.old }
+    {
+        let is_open = self.run.is_open();
+        if let Some(fault) = self.typed.untold(was_open, is_open, completes) {
+            let hint = hint_for(self.typed.wish(), fault.number);
+            let table = self.run.session().table();
+            tell_refusal(messages, table, fault.number, origin_in(fault), hint);
+        }
+    }
+
+    // Tells what the refusal says that was told, if one was, with the first thing found that is refused so. That of an earlier line
+    // was told with that line.
     fn tell_found<W: Sink, M: Sink>(
         &self,
         output: &Watched<W>,
@@ -274,15 +305,25 @@ impl Editor {
         let Some(number) = output.refusal() else {
             return;
         };
+        if self.is_earlier(line) && self.typed.has_told(number) {
+            return;
+        }
         let table = self.run.session().table();
+        let hint = match output.needed_by() {
+            Some(statement) => Hint::NeededBy(statement),
+            None => hint_for(self.typed.wish(), number),
+        };
         match first_with(found, number) {
-            Some(found) => tell_refusal(messages, table, number, Origin::Found(found)),
-            None => match line {
-                Some(line) if line < self.lines => {
-                    tell_refusal(messages, table, number, Origin::Line(line))
-                }
-                _ => tell_refusal(messages, table, number, Origin::Here),
-            },
+            Some(found) => tell_refusal(messages, table, number, Origin::Found(found), hint),
+            None => tell_refusal(messages, table, number, Origin::Here, hint),
+        }
+    }
+
+    // Whether a line comes before the one that was taken last.
+    fn is_earlier(&self, line: Option<u32>) -> bool {
+        match line {
+            Some(line) => line < self.lines,
+            None => false,
         }
     }
 
@@ -294,7 +335,8 @@ impl Editor {
         origin: Origin<'_>,
     ) {
         if let Some(number) = output.refusal() {
-            tell_refusal(messages, self.run.session().table(), number, origin);
+            let table = self.run.session().table();
+            tell_refusal(messages, table, number, origin, Hint::Nothing);
         }
     }
 
@@ -693,6 +735,14 @@ fn refused_line(request: &Option<RequestAt>) -> Option<u32> {
             _ => None,
         },
         None => None,
+    }
+}
+
+// Where the fault of a line comes from that no reply tells.
+fn origin_in(fault: LineFault) -> Origin<'static> {
+    match fault.line {
+        Some(line) => Origin::Block(line),
+        None => Origin::Here,
     }
 }
 

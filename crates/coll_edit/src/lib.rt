@@ -10,6 +10,7 @@
 //! - `devices`: files that are opened by their names;
 //! - `replies`, `showing`, `weights`, `statements`, `word_lists` with `word_keys`, `help`: what these lines are answered (`Showing`,
 //!   `WordLists`, `ToldLists`, `WordKeys`, `Help`, and `OwnReplies` for all that ask for nothing but the table and the history);
+//! - `typed_lines`: what a typed line is by itself, so that its fault is told where it is typed;
 //! - `messages`: prompts, and the sentence behind a refusal, for standard error;
 //! - `copies`: copies of statements, which delta files put before the first line;
 //! - `editors`: where an edit stands between two lines, and how it goes on by one (`Editing`);
@@ -26,6 +27,7 @@ mod replies;
 mod runs;
 mod showing;
 mod statements;
+mod typed_lines;
 mod watched;
 mod weights;
 mod word_keys;

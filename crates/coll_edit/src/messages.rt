@@ -4,11 +4,27 @@
 //! and no fault of a session counts it.
 
 use crate::devices::FileReason;
-use coll_advice::{Found, advice_of, nearest_name, write_advice};
+use crate::typed_lines::Wish;
+use coll_advice::{Found, advice_of, nearest_name, nearest_section, write_advice};
 use coll_devices::{Sink, WriteStop};
 use coll_syntax::Id;
 use coll_table::Table;
 use coll_texts::{Piece, write_pieces};
+
+// The numbers of faults of which more is told than their sentence.
+const UNKNOWN_STATEMENT: u8 = 20;
+
+const NOT_DECLARED: u8 = 34;
+
+const TARGET_NOT_PLACED: u8 = 50;
+
+const NO_SUCH_SECTION: u8 = 52;
+
+const NOT_PLACED: u8 = 54;
+
+const NO_WEIGHTS: u8 = 55;
+
+const BLOCK_OPEN: u8 = 62;
 
 /// Asks for a line.
 pub(crate) fn prompt<M: Sink>(messages: &mut M, open: bool) {
@@ -28,8 +44,8 @@ pub(crate) fn end_prompt<M: Sink>(messages: &mut M) {
 pub(crate) enum Origin<'a> {
     /// The line that was replied to.
     Here,
-    /// An earlier line of the text, by its number.
-    Line(u32),
+    /// A line of the block that is open, by its number there, from 1.
+    Block(usize),
     /// A statement, in which this was found.
     Found(&'a Found),
     /// The line that was replied to, which names this.
@@ -40,14 +56,47 @@ pub(crate) enum Origin<'a> {
     Unopened(&'a str, FileReason),
 }
 
+/// What to do, where more is known than the number of a refusal.
+#[derive(Clone, Copy)]
+pub(crate) enum Hint {
+    /// No more is.
+    Nothing,
+    /// This command is meant.
+    Meant(&'static str),
+    /// The end was asked for in an open block.
+    OpenBlock,
+    /// The statement with this number needs the one that was to be withdrawn.
+    NeededBy(u32),
+}
+
+/// What to do about a refusal with a number, where a line asks for something in this way.
+pub(crate) fn hint_for(wish: Wish, number: u8) -> Hint {
+    match wish {
+        Wish::Nothing => Hint::Nothing,
+        Wish::Help => meant(":help", number),
+        Wish::End => meant(":quit", number),
+        Wish::EndHere if number == BLOCK_OPEN => Hint::OpenBlock,
+        Wish::EndHere => Hint::Nothing,
+    }
+}
+
+// That a command is meant, where a word or a character is refused as what it isn't.
+fn meant(command: &'static str, number: u8) -> Hint {
+    if number == UNKNOWN_STATEMENT || number == NOT_PLACED || number == NO_WEIGHTS {
+        return Hint::Meant(command);
+    }
+    Hint::Nothing
+}
+
 /// Tells what a refusal says, by its number: where it comes from, what it is about, and what to do.
 pub(crate) fn tell_refusal<M: Sink>(
     messages: &mut M,
     table: &Table,
     number: u8,
     origin: Origin<'_>,
+    hint: Hint,
 ) {
-    let _ = write_told(messages, table, number, origin);
+    let _ = write_told(messages, table, number, origin, hint);
     let _ = messages.flush();
 }
 
@@ -57,6 +106,7 @@ fn write_told<M: Sink>(
     table: &Table,
     number: u8,
     origin: Origin<'_>,
+    hint: Hint,
 ) -> Result<(), WriteStop> {
     let Some(advice) = advice_of(number) else {
         return Ok(());
@@ -70,11 +120,56 @@ fn write_told<M: Sink>(
             Piece::Bytes(advice.name.as_bytes()),
         ],
     )?;
+    match hint {
+        Hint::Nothing => write_advised(messages, table, number, origin),
+        Hint::Meant(command) => write_meant(messages, command),
+        Hint::OpenBlock => write_pieces(messages, &[Piece::Bytes(OPEN_BLOCK)]),
+        Hint::NeededBy(number) => write_needed(messages, number),
+    }
+}
+
+// How an open block is left by whoever asks for the end there.
+const OPEN_BLOCK: &[u8] =
+    b": end the block by reorder-end, and take it back by :undo if the reply is ok; the end of the input, Ctrl-D at a terminal, drops it and ends the edit\n";
+
+// Writes which command is meant.
+fn write_meant<M: Sink>(messages: &mut M, command: &str) -> Result<(), WriteStop> {
+    write_pieces(
+        messages,
+        &[
+            Piece::Bytes(b": is "),
+            Piece::Bytes(command.as_bytes()),
+            Piece::Bytes(b" meant?\n"),
+        ],
+    )
+}
+
+// Writes which statement needs the one that was to be withdrawn.
+fn write_needed<M: Sink>(messages: &mut M, number: u32) -> Result<(), WriteStop> {
+    write_pieces(
+        messages,
+        &[
+            Piece::Bytes(b": statement "),
+            Piece::Number(u64::from(number)),
+            Piece::Bytes(b" needs it: withdraw that one before, by :withdraw "),
+            Piece::Number(u64::from(number)),
+            Piece::Bytes(b"\n"),
+        ],
+    )
+}
+
+// Writes what a refusal is about, and what its number says to do.
+fn write_advised<M: Sink>(
+    messages: &mut M,
+    table: &Table,
+    number: u8,
+    origin: Origin<'_>,
+) -> Result<(), WriteStop> {
     match origin {
         Origin::Unopened(name, reason) => write_reason(messages, name, reason),
         Origin::Found(found) => write_about(messages, table, number, found.id.as_ref()),
         Origin::Id(id) => write_about(messages, table, number, Some(id)),
-        Origin::Here | Origin::Line(_) | Origin::File(..) => {
+        Origin::Here | Origin::Block(_) | Origin::File(..) => {
             write_about(messages, table, number, None)
         }
     }
@@ -121,35 +216,36 @@ fn write_origin<M: Sink>(messages: &mut M, origin: Origin<'_>) -> Result<(), Wri
                 Piece::Bytes(b": "),
             ],
         ),
-        Origin::Line(line) => write_pieces(
-            messages,
-            &[
-                Piece::Bytes(b"line "),
-                Piece::Number(u64::from(line)),
-                Piece::Bytes(b": "),
-            ],
-        ),
+        Origin::Block(line) => write_line(messages, line),
         Origin::Found(found) => match found.line {
-            Some(line) => write_pieces(
-                messages,
-                &[
-                    Piece::Bytes(b"line "),
-                    Piece::Number((line as u64).saturating_add(1)),
-                    Piece::Bytes(b" of the block: "),
-                ],
-            ),
+            Some(line) => write_line(messages, line.saturating_add(1)),
             None => Ok(()),
         },
     }
 }
 
-// The number of the fault of a name that isn't declared.
-const NOT_DECLARED: u8 = 34;
+// Writes a line of a block, by its number there, from 1.
+fn write_line<M: Sink>(messages: &mut M, line: usize) -> Result<(), WriteStop> {
+    write_pieces(
+        messages,
+        &[
+            Piece::Bytes(b"line "),
+            Piece::Number(line as u64),
+            Piece::Bytes(b" of the block: "),
+        ],
+    )
+}
 
-// The declared name that is near to one that isn't declared, if one is.
+// The name that is near to one that is refused so, if one is: a declared one, or that of a section.
 fn near<'a>(table: &'a Table, number: u8, id: Option<&Id>) -> Option<&'a str> {
-    match id {
-        Some(Id::Named(name)) if number == NOT_DECLARED => nearest_name(table, name.get()),
-        _ => None,
+    let Some(Id::Named(name)) = id else {
+        return None;
+    };
+    if number == NO_SUCH_SECTION {
+        return nearest_section(table, name.get());
     }
+    if number == NOT_DECLARED || number == TARGET_NOT_PLACED {
+        return nearest_name(table, name.get());
+    }
+    None
 }

@@ -10,10 +10,12 @@ ghost use Rattle.coll_edit.specs.Watching.{device_of};
 use coll_devices::Sink;
 use std::io;
 
-// As many bytes as tell a refusal: its word, a number, and a blank.
-const KEPT: usize = 16;
+// As many bytes as tell a refusal: its words, a number of at most five digits, and a blank.
+const KEPT: usize = 32;
 
 const REFUSED: &[u8] = b"refused ";
+
+const STILL_NEEDED: &[u8] = b"refused 71 StillNeeded ";
 
 /// A device, and the first bytes of what it took since it was told to forget.
 #[derive(Drop)]
@@ -52,7 +54,15 @@ impl<W> Watched<W> {
 
     // The number of the refusal that was told since it was told to forget, if one was.
     pub(crate) fn refusal(&self) -> Option<u8> {
-        number_told(&self.first)
+        match number_behind(&self.first, REFUSED) {
+            Some(number) => u8::try_from(number).ok(),
+            None => None,
+        }
+    }
+
+    // The number of the statement that needs the one which was to be withdrawn, where that is the refusal that was told.
+    pub(crate) fn needed_by(&self) -> Option<u32> {
+        number_behind(&self.first, STILL_NEEDED)
     }
 
     // Keeps the first bytes.
@@ -69,13 +79,13 @@ impl<W> Watched<W> {
     }
 }
 
-// The number behind the word of a refusal, if bytes begin with that.
-fn number_told(first: &[u8]) -> Option<u8> {
-    let digits = first.strip_prefix(REFUSED)?;
-    let mut number = 0u8;
+// The number behind these words, if bytes begin with them.
+fn number_behind(first: &[u8], words: &[u8]) -> Option<u32> {
+    let digits = first.strip_prefix(words)?;
+    let mut number = 0u32;
     for byte in digits {
         match char::from(*byte).to_digit(10) {
-            Some(value) => number = number.saturating_mul(10).saturating_add(value as u8),
+            Some(value) => number = number.saturating_mul(10).saturating_add(value),
             None => return Some(number),
         }
     }

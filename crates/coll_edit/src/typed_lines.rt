@@ -1,0 +1,200 @@
+//! What a typed line is by itself, as soon as it is typed.
+//!
+//! A session answers an open block where it ends, with the first fault that spoiled it. A person is told of each line at fault once,
+//! and at once. So each line is read here as well, by a lexer of its own, which reads what the session's does. What is found is for
+//! standard error alone, and changes no reply; where memory is refused, nothing is found. A word that other programs take for `:help`
+//! or `:quit` is found here too.
+
+ghost use Rattle.coll_lex.specs.Names.{AreTokens};
+
+use coll_lex::{LexFault, Lexer, Line, Token};
+use coll_requests::RequestFault;
+use coll_syntax::{DeltaLine, MOST_BLOCK_LINES, SyntaxFault, is_word, parse_delta_line};
+use std::alloc::{AllocError, Global};
+
+// What a line is to a block.
+#[derive(Clone, Copy)]
+enum TypedLine {
+    // It has no token, or is `reorder-after` or `reorder-end`, accepted.
+    Nothing,
+    // A command, which a block lets pass.
+    Command,
+    // An order line.
+    Order,
+    // A line that spoils a block, by the number of its fault.
+    Fault(u8),
+}
+
+/// What a line asks for that is asked for otherwise.
+#[derive(Clone, Copy)]
+pub(crate) enum Wish {
+    /// Nothing of these.
+    Nothing,
+    /// The help: `help`, or `?` alone.
+    Help,
+    /// The end: `quit`, `exit`, or `q` alone.
+    End,
+    /// The end, by `:quit`, which no open block takes.
+    EndHere,
+}
+
+/// A fault of a line that no reply tells where the line is typed.
+#[derive(Clone, Copy)]
+pub(crate) struct LineFault {
+    /// Its line in the block, from 1; none for a line that opens a block or ends one.
+    pub line: Option<usize>,
+    /// Its number.
+    pub number: u8,
+}
+
+/// The lines that were typed: the last one, and what was told of the block that is open.
+#[derive(Drop)]
+pub(crate) struct TypedLines {
+    lexer: Lexer,
+    last: TypedLine,
+    wish: Wish,
+    // How many lines the block has, those at fault too.
+    lines: usize,
+    // The number of the first fault that was told of the block.
+    first: Option<u8>,
+}
+
+impl TypedLines {
+    /// No line yet.
+    pub fn new(alloc: Global) -> Result<TypedLines, AllocError> {
+        let lexer = Lexer::new(alloc)?;
+        Ok(TypedLines {
+            lexer,
+            last: TypedLine::Nothing,
+            wish: Wish::Nothing,
+            lines: 0,
+            first: None,
+        })
+    }
+
+    /// Reads one more physical line, without its line feed.
+    pub fn read(&mut self, alloc: Global, line: &[u8]) {
+        self.last = TypedLine::Nothing;
+        self.wish = Wish::Nothing;
+        match self.lexer.feed(line) {
+            Ok(Some(line)) => {
+                self.last = line_of(alloc, &line);
+                self.wish = wish_of(&line);
+                drop(line);
+            }
+            Ok(None) | Err(LexFault::OutOfMemory) => {}
+            Err(fault) => self.last = TypedLine::Fault(fault.number()),
+        }
+    }
+
+    /// What the last line asks for that is asked for otherwise.
+    pub fn wish(&self) -> Wish {
+        self.wish
+    }
+
+    /// Whether the first fault that was told of the block has this number.
+    pub fn has_told(&self, number: u8) -> bool {
+        self.first == Some(number)
+    }
+
+    /// The fault of the last line that no reply tells there, if it has one, by whether a block was open before it and is open behind
+    /// it, and whether it completed a request.
+    pub fn untold(&mut self, was_open: bool, is_open: bool, completes: bool) -> Option<LineFault> {
+        match self.last {
+            TypedLine::Command => None,
+            line if was_open && !completes => self.untold_within(line),
+            line => self.untold_at_edge(line, is_open),
+        }
+    }
+
+    // The fault of a line within a block. The first order line too many spoils a block that no other line has spoiled.
+    fn untold_within(&mut self, line: TypedLine) -> Option<LineFault> {
+        let number = match line {
+            TypedLine::Nothing | TypedLine::Command => return None,
+            TypedLine::Order if self.first.is_some() || self.lines < MOST_BLOCK_LINES => None,
+            TypedLine::Order => Some(SyntaxFault::BlockTooLong.number()),
+            TypedLine::Fault(number) => Some(number),
+        };
+        self.lines = self.lines.saturating_add(1);
+        let number = number?;
+        if self.first.is_none() {
+            self.first = Some(number);
+        }
+        Some(LineFault {
+            line: Some(self.lines),
+            number,
+        })
+    }
+
+    // The fault of a line that opens a block or ends one. Where it ends one that none has spoiled before, the reply tells it.
+    fn untold_at_edge(&mut self, line: TypedLine, is_open: bool) -> Option<LineFault> {
+        let was_spoiled = self.first.is_some();
+        self.lines = 0;
+        self.first = None;
+        match line {
+            TypedLine::Fault(number) if is_open => {
+                self.first = Some(number);
+                Some(LineFault { line: None, number })
+            }
+            TypedLine::Fault(number) if was_spoiled => Some(LineFault { line: None, number }),
+            _ => None,
+        }
+    }
+}
+
+// What a line with tokens is to a block.
+fn line_of(alloc: Global, line: &Line) -> TypedLine
+    requires { AreTokens line.now.tokens }
+{
+    if is_command(line) {
+        return TypedLine::Command;
+    }
+    match parse_delta_line(alloc, line) {
+        Ok(read) => {
+            let typed = accepted(&read);
+            drop(read);
+            typed
+        }
+        Err(SyntaxFault::OutOfMemory) => TypedLine::Nothing,
+        Err(fault) => TypedLine::Fault(fault.number()),
+    }
+}
+
+// Whether a line is a command.
+fn is_command(line: &Line) -> bool {
+    match line.tokens.get().first() {
+        Some(Token::Word(word)) => word.get().len() > 1 && word.get().starts_with(':'),
+        _ => false,
+    }
+}
+
+// What a line that the grammar accepts is to a block.
+fn accepted(line: &DeltaLine) -> TypedLine {
+    match line {
+        DeltaLine::Order(_) => TypedLine::Order,
+        DeltaLine::ReorderAfter(_) | DeltaLine::ReorderEnd => TypedLine::Nothing,
+        _ => TypedLine::Fault(RequestFault::BlockOpen.number()),
+    }
+}
+
+// What a line asks for that is asked for otherwise.
+fn wish_of(line: &Line) -> Wish {
+    match line.tokens.get().split_first() {
+        Some((word, rest)) => wish_by(word, rest.is_empty()),
+        None => Wish::Nothing,
+    }
+}
+
+// What a word asks for, which begins a line or stands alone in it. A character alone is an order line elsewhere.
+fn wish_by(word: &Token, alone: bool) -> Wish {
+    if is_word(word, ":quit") {
+        return Wish::EndHere;
+    }
+    if is_word(word, "help") || (alone && is_word(word, "?")) {
+        return Wish::Help;
+    }
+    if is_word(word, "quit") || is_word(word, "exit") || (alone && is_word(word, "q")) {
+        return Wish::End;
+    }
+    Wish::Nothing
+}
