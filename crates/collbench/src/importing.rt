@@ -8,6 +8,7 @@ ghost use Rattle.collbench.specs.MadeTexts.{made_text};
 
 use crate::Output;
 use crate::laws::written_deltas_are_accepted;
+use crate::refusals::{tell_below_source, tell_sentence};
 use coll_bench::{Fault, exit_status};
 use coll_delta_texts::write_delta;
 use coll_import::{import_table, write_report, write_source_fault};
@@ -260,6 +261,7 @@ fn tell_unwritten(rt: &HostRuntime, files: &[String]) -> ExitCode {
     let fault = Fault::Write(WriteStop::WriteFault);
     if let Some(source) = files.first() {
         let _ = eprintln!(rt; "{source}:0: {fault}");
+        tell_sentence(rt, fault.number());
     }
     ExitCode::from(exit_status(&fault))
 }
@@ -275,6 +277,11 @@ fn write_whole(made: &Made, output: Output) -> bool {
 // Tells a fault, and answers the exit status.
 fn tell(rt: &HostRuntime, fault: &SourceFault, files: &[String]) -> ExitCode {
     let _ = write_source_fault(&mut Counted::new(rt.stderr()), fault, files);
+    let folder = match files.first() {
+        Some(source) => folder_of(source.as_str()).0,
+        None => "",
+    };
+    tell_below_source(rt, fault, files, folder);
     ExitCode::from(match fault.cause.number() {
         67 | 68 => 2,
         _ => 1,

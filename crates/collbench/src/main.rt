@@ -4,8 +4,8 @@
 //! words name, `importing` makes tables and delta files of sources, `explaining` tells why texts compare as they do, `standard_input`
 //! is what serves lines, as `sessions`, `words`, which sorts them, and `editing`, which serves a person; `reviews` tells what
 //! statements do to words, `differences` compares two tables, and `linting` tells all that is wrong with one; `reasons` has why the
-//! system refuses a file. Here the runs are started, and their faults are told: a line on standard error, and the exit status, which
-//! stands also where that line can't be written.
+//! system refuses a file. Here the runs are started, and their faults are told: a line on standard error, what `refusals` tells below it
+//! at a terminal, and the exit status, which stands also where that line can't be written.
 #![tactic(auto)]
 
 ghost use Rattle.std.specs.Prelude.{◌<◌, length, vec_len, IfOk, IfErr, ◌≡◌};
@@ -19,6 +19,7 @@ mod laws;
 mod linting;
 mod random_keys;
 mod reasons;
+mod refusals;
 mod reviews;
 mod sessions;
 mod standard_input;
@@ -36,6 +37,7 @@ use files::{Input, at_no_line, open_all};
 use importing::{Wanted, import};
 use linting::lint_files;
 use random_keys::random_keys;
+use refusals::{tell_below, tell_sentence};
 use reviews::review;
 use sessions::SessionOver;
 use standard_input::serve_input;
@@ -288,8 +290,18 @@ fn status(rt: &HostRuntime, ran: Result<(), RunFault>, names: &[String]) -> Exit
     }
 }
 
-// Tells a fault on standard error, and answers the exit status. Where the line can't be written, the status says what happened.
+// Tells a fault on standard error, at a terminal with what stands there and what to do, and answers the exit status.
 fn tell_fault(rt: &HostRuntime, fault: &RunFault, names: &[String]) -> ExitCode
+    requires { fault.now.input < length names.now }
+{
+    let status = tell_fault_line(rt, fault, names);
+    tell_below(rt, fault, names);
+    status
+}
+
+// Tells the line of a fault on standard error, and answers the exit status. Where the line can't be written, the status says what
+// happened.
+fn tell_fault_line(rt: &HostRuntime, fault: &RunFault, names: &[String]) -> ExitCode
     requires { fault.now.input < length names.now }
 {
     let _ = write_fault(fault, names, &mut Counted::new(rt.stderr()));
@@ -304,6 +316,7 @@ fn tell_no_memory(rt: &HostRuntime) -> ExitCode {
 // Tells a fault that was met before there was an input.
 fn tell_at_start(rt: &HostRuntime, fault: Fault) -> ExitCode {
     let _ = eprintln!(rt; "-:0: {fault}");
+    tell_sentence(rt, fault.number());
     ExitCode::from(exit_status(&fault))
 }
 

@@ -5,13 +5,13 @@
 
 ghost use Rattle.std.specs.Prelude.{◌≡◌, ◌<◌, length, IfErr};
 
-use crate::{status, tell_fault, tell_no_memory};
+use crate::{tell_fault, tell_no_memory};
 use coll_bench::RunFault;
 use coll_table::HashKeys;
 use std::process::ExitCode;
 
-// The name of standard input.
-const STANDARD_INPUT: &str = "-";
+/// The name of standard input.
+pub(crate) const STANDARD_INPUT: &str = "-";
 
 /// What serves the lines of standard input by the table in the first of some files.
 pub(crate) trait ServesLines: Drop {
@@ -23,6 +23,13 @@ pub(crate) trait ServesLines: Drop {
     /// Serves the lines.
     fn serve(self, rt: &HostRuntime) -> Result<(), RunFault>
         ensures { IfErr result (λ fault. fault.input ≡ 0) };
+
+    /// Tells a fault of inputs with these names, and answers the exit status.
+    fn tell(rt: &HostRuntime, fault: &RunFault, names: &[String]) -> ExitCode
+        requires { fault.now.input < length names.now }
+    {
+        tell_fault(rt, fault, names)
+    }
 }
 
 /// Serves the lines of standard input by the files with these names, and answers the exit status.
@@ -37,8 +44,11 @@ pub(crate) fn serve_input<S: ServesLines>(
 {
     match String::from_str(rt.alloc(), STANDARD_INPUT) {
         Ok(name) => match S::begin(rt, keys, files) {
-            Ok(served) => status(rt, served.serve(rt), &[name]),
-            Err(fault) => tell_fault(rt, &fault, names),
+            Ok(served) => match served.serve(rt) {
+                Ok(()) => ExitCode::SUCCESS,
+                Err(fault) => S::tell(rt, &fault, &[name]),
+            },
+            Err(fault) => S::tell(rt, &fault, names),
         },
         Err(_) => tell_no_memory(rt),
     }
