@@ -1,9 +1,9 @@
 #!/usr/bin/env python3
 """The merge gate: whether each edit of crates/*/more-edits/ can still be applied, whether the code tells of each fault what is documented,
 `rt ci`, and then the runs of the programs that it built, withdrawals from random histories, explanations of pairs, reviews of random
-delta files, imports of random ranges, lints of damaged texts, edits at a terminal, lines of progress, lists of words in edits, the
-commands of the tutorial, man pages, completions, colours of vim and the ways to install among them, and whether the version that is
-told is that of the changelog and of the kit. What the prover says of those edits, `make edits` tells.
+delta files, imports of random ranges, lints of damaged texts, edits and refused runs at a terminal, lines of progress, lists of words in
+edits, the commands of the tutorial, man pages, completions, colours of vim and the ways to install among them, and whether the version
+that is told is that of the changelog and of the kit. What the prover says of those edits, `make edits` tells.
 
 usage: checkers/gate.py
 
@@ -28,6 +28,7 @@ import random_ranges
 import random_reviews
 import random_withdrawals
 import refuse_growths
+import refused_lines
 import run_program
 import tutorial
 import vim_syntax
@@ -91,6 +92,7 @@ BEHIND = [
     ("lints of damaged texts", lambda: damaged_texts.run_all(run_program.PROGRAM)),
     ("edits at a terminal", lambda: edit_terminal.run_all(run_program.PROGRAM)),
     ("lines of progress at a terminal", lambda: progress_lines.run_all(run_program.PROGRAM)),
+    ("refused runs at a terminal", lambda: refused_lines.run_all(run_program.PROGRAM)),
     ("lists of words in edits", lambda: listed_words.run_all(run_program.PROGRAM)),
     ("commands of the tutorial", lambda: tutorial.run_all(run_program.PROGRAM)),
     ("man pages", lambda: man_pages.run_all(run_program.PROGRAM)),

@@ -7,15 +7,16 @@ ghost use Rattle.std.specs.Prelude.{◌≡◌, ◌<◌, length, IfErr};
 
 use crate::files::{Input, at_no_line, open_all};
 use crate::progress::ProgressLine;
-use crate::read_first;
 use crate::reasons::{ReasonedOutput, reason_of, reasoned_output};
 use crate::standard_input::ServesLines;
+use crate::{read_first, tell_fault_line};
 use coll_bench::{Fault, RunFault};
 use coll_edit::{Editor, FileReason, OpensFiles, Watched, edit_lines};
 use coll_lex::{Counted, LexFault};
 use coll_table::HashKeys;
 use std::fs::File;
 use std::io::IsTerminal;
+use std::process::ExitCode;
 
 // The files of the system.
 #[derive(Drop)]
@@ -61,6 +62,11 @@ impl ServesLines for Editor {
         let ran = edit_standard_input(rt, &mut self);
         drop(self);
         ran
+    }
+
+    // What an edit says beside a fault stands in its replies.
+    fn tell(rt: &HostRuntime, fault: &RunFault, names: &[String]) -> ExitCode {
+        tell_fault_line(rt, fault, names)
     }
 }
 

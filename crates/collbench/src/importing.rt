@@ -11,6 +11,7 @@ use crate::files::{file_size, is_output_a_file, line_for};
 use crate::laws::written_deltas_are_accepted;
 use crate::metered::{MeteredSink, MeteredSource};
 use crate::progress::{ProgressLine, Step};
+use crate::refusals::{tell_below_source, tell_sentence};
 use crate::{Output, read_table, tell_fault, tell_no_memory};
 use coll_bench::{Fault, exit_status};
 use coll_delta_texts::write_delta;
@@ -351,6 +352,7 @@ fn tell_unwritten(rt: &HostRuntime, files: &[String]) -> ExitCode {
     let fault = Fault::Write(WriteStop::WriteFault);
     if let Some(source) = files.first() {
         let _ = eprintln!(rt; "{source}:0: {fault}");
+        tell_sentence(rt, fault.number());
     }
     ExitCode::from(exit_status(&fault))
 }
@@ -372,6 +374,11 @@ fn tell(
 ) -> ExitCode {
     line.hide();
     let _ = write_source_fault(&mut Counted::new(rt.stderr()), fault, files);
+    let folder = match files.first() {
+        Some(source) => folder_of(source.as_str()).0,
+        None => "",
+    };
+    tell_below_source(rt, fault, files, folder);
     ExitCode::from(match fault.cause.number() {
         67 | 68 => 2,
         _ => 1,

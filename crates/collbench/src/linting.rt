@@ -8,9 +8,8 @@ ghost use Rattle.std.specs.Prelude.{◌≡◌, ◌<◌, length};
 use crate::files::{at_no_line, file_size, is_output_a_file, line_for};
 use crate::metered::{MeteredSink, MeteredSource};
 use crate::progress::{ProgressLine, Step};
-use crate::reasons::{Reasoned, ReasonedOutput, reason_of, reasoned_output};
+use crate::reasons::{Reasoned, ReasonedOutput, reasoned_output, told_reason};
 use coll_bench::{Fault, RunFault, exit_status};
-use coll_edit::FileReason;
 use coll_lex::{ReadStop, Sink, WriteStop};
 use coll_lint::{Progress, keep_text, lint_watched};
 use coll_table::HashKeys;
@@ -64,14 +63,6 @@ fn tell_refused(rt: &HostRuntime, refused: &Refused, names: &[String]) -> ExitCo
         None => eprintln!(rt; "{name}:{line}: {fault}"),
     };
     ExitCode::from(exit_status(&fault))
-}
-
-// A reason of the system in words, where it gave one that is known.
-fn told_reason(reason: Option<ErrorKind>) -> Option<&'static str> {
-    match reason_of(reason?) {
-        FileReason::Other => None,
-        reason => Some(reason.words()),
-    }
 }
 
 // Opens the files and reads them, and tells all that is wrong with them.

@@ -5,8 +5,8 @@
 //! is what serves lines, as `sessions`, `words`, which sorts them, and `editing`, which serves a person; `reviews` tells what
 //! statements do to words, `differences` compares two tables, and `linting` tells all that is wrong with one; `reasons` has why the
 //! system refuses a file; `progress` is the line that says how far a run got, which the readers and writers of `metered` tell. Here the
-//! runs are started, and their faults are told: a line on standard error, and the exit status, which stands also where that line can't
-//! be written.
+//! runs are started, and their faults are told: a line on standard error, what `refusals` tells below it at a terminal, and the exit
+//! status, which stands also where that line can't be written.
 #![tactic(auto)]
 
 ghost use Rattle.std.specs.Prelude.{◌<◌, length, vec_len, IfOk, IfErr, ◌≡◌};
@@ -22,6 +22,7 @@ mod metered;
 mod progress;
 mod random_keys;
 mod reasons;
+mod refusals;
 mod reviews;
 mod sessions;
 mod standard_input;
@@ -40,6 +41,7 @@ use importing::{import_as_delta, import_as_table};
 use linting::lint_files;
 use progress::ProgressLine;
 use random_keys::random_keys;
+use refusals::{tell_below, tell_sentence};
 use reviews::review;
 use sessions::SessionOver;
 use standard_input::serve_input;
@@ -282,8 +284,18 @@ fn status(rt: &HostRuntime, ran: Result<(), RunFault>, names: &[String]) -> Exit
     }
 }
 
-// Tells a fault on standard error, and answers the exit status. Where the line can't be written, the status says what happened.
+// Tells a fault on standard error, at a terminal with what stands there and what to do, and answers the exit status.
 fn tell_fault(rt: &HostRuntime, fault: &RunFault, names: &[String]) -> ExitCode
+    requires { fault.now.input < length names.now }
+{
+    let status = tell_fault_line(rt, fault, names);
+    tell_below(rt, fault, names);
+    status
+}
+
+// Tells the line of a fault on standard error, and answers the exit status. Where the line can't be written, the status says what
+// happened.
+fn tell_fault_line(rt: &HostRuntime, fault: &RunFault, names: &[String]) -> ExitCode
     requires { fault.now.input < length names.now }
 {
     let _ = write_fault(fault, names, &mut Counted::new(rt.stderr()));
@@ -298,6 +310,7 @@ fn tell_no_memory(rt: &HostRuntime) -> ExitCode {
 // Tells a fault that was met before there was an input.
 fn tell_at_start(rt: &HostRuntime, fault: Fault) -> ExitCode {
     let _ = eprintln!(rt; "-:0: {fault}");
+    tell_sentence(rt, fault.number());
     ExitCode::from(exit_status(&fault))
 }
 

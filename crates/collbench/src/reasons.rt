@@ -116,3 +116,11 @@ pub(crate) fn reason_of(kind: ErrorKind) -> FileReason {
         _ => FileReason::Other,
     }
 }
+
+/// A reason of the system in words, where it gave one that is known.
+pub(crate) fn told_reason(reason: Option<ErrorKind>) -> Option<&'static str> {
+    match reason_of(reason?) {
+        FileReason::Other => None,
+        reason => Some(reason.words()),
+    }
+}

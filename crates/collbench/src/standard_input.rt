@@ -6,13 +6,13 @@
 ghost use Rattle.std.specs.Prelude.{◌≡◌, ◌<◌, length, IfErr};
 
 use crate::progress::ProgressLine;
-use crate::{status, tell_fault, tell_no_memory};
+use crate::{tell_fault, tell_no_memory};
 use coll_bench::RunFault;
 use coll_table::HashKeys;
 use std::process::ExitCode;
 
-// The name of standard input.
-const STANDARD_INPUT: &str = "-";
+/// The name of standard input.
+pub(crate) const STANDARD_INPUT: &str = "-";
 
 /// What serves the lines of standard input by the table in the first of some files.
 pub(crate) trait ServesLines: Drop {
@@ -29,6 +29,13 @@ pub(crate) trait ServesLines: Drop {
     /// Serves the lines.
     fn serve(self, rt: &HostRuntime, line: &ProgressLine<'_>) -> Result<(), RunFault>
         ensures { IfErr result (λ fault. fault.input ≡ 0) };
+
+    /// Tells a fault of inputs with these names, and answers the exit status.
+    fn tell(rt: &HostRuntime, fault: &RunFault, names: &[String]) -> ExitCode
+        requires { fault.now.input < length names.now }
+    {
+        tell_fault(rt, fault, names)
+    }
 }
 
 /// Serves the lines of standard input by the files with these names, and answers the exit status.
@@ -68,12 +75,15 @@ fn serve_by<S: ServesLines>(
         Ok(served) => {
             let ran = served.serve(rt, line);
             line.hide();
-            status(rt, ran, &[name])
+            match ran {
+                Ok(()) => ExitCode::SUCCESS,
+                Err(fault) => S::tell(rt, &fault, &[name]),
+            }
         }
         Err(fault) => {
             line.hide();
             drop(name);
-            tell_fault(rt, &fault, names)
+            S::tell(rt, &fault, names)
         }
     }
 }

@@ -1,0 +1,236 @@
+//! What is told of a fault that ended a run, below its line, where standard error is a terminal.
+//!
+//! The line at fault is shown, with a mark, and what to do. So the files that a fault is about are read once more: regular files alone,
+//! since a pipe or a device gives its bytes once, and never standard input. Whatever fails here is left out: the line of the fault and
+//! the exit status stay what they are without a terminal.
+
+use crate::random_keys::random_keys;
+use crate::reasons::told_reason;
+use crate::standard_input::STANDARD_INPUT;
+use coll_bench::{Fault, RunFault, read_inputs};
+use coll_lex::Counted;
+use coll_lint::{
+    RefusedLine, keep_text, refused_alone, refused_at, refused_in_delta, refused_in_table,
+    write_refused,
+};
+use coll_sources::SourceFault;
+use coll_table::{HashKeys, LoadCause, Table};
+use std::fs;
+use std::fs::File;
+use std::io::{ErrorKind, IsTerminal};
+
+// The number of the fault of a file that can't be opened or read.
+const READ_FAULT: u8 = 67;
+
+// The last number of the faults of lines, which are about no identifier.
+const LAST_OF_LINES: u8 = 12;
+
+// What is surveyed for a fault.
+enum Surveyed {
+    Table,
+    Delta,
+    Nothing,
+}
+
+/// Tells below the line of a fault of these files what stands there, and what to do.
+pub(crate) fn tell_below(rt: &HostRuntime, fault: &RunFault, names: &[String]) {
+    if !rt.stderr().is_terminal() {
+        return;
+    }
+    let number = fault.fault.number();
+    match names.get(fault.input) {
+        Some(name) if number == READ_FAULT => tell_unread(rt, name.as_str()),
+        Some(name) => {
+            let refused = refused_in_file(rt, fault, name.as_str(), names);
+            tell_refused(rt, number, refused);
+        }
+        None => tell_alone(rt, number),
+    }
+}
+
+/// Tells below the line of a fault of these sources what stands there, and what to do. What the first of them copies lies in this folder.
+pub(crate) fn tell_below_source(
+    rt: &HostRuntime,
+    fault: &SourceFault,
+    files: &[String],
+    folder: &str,
+) {
+    if !rt.stderr().is_terminal() {
+        return;
+    }
+    let (number, place) = (fault.cause.number(), fault.place);
+    match files.get(place.text) {
+        Some(name) if number == READ_FAULT && place.text > 0 => {
+            tell_missing_copy(rt, name.as_str(), folder)
+        }
+        Some(name) if number == READ_FAULT => tell_unread(rt, name.as_str()),
+        Some(name) => {
+            let refused = refused_in_source(rt, number, place.line, name.as_str());
+            tell_refused(rt, number, refused);
+        }
+        None => tell_alone(rt, number),
+    }
+}
+
+/// Tells below the line of a fault with this number what to do.
+pub(crate) fn tell_sentence(rt: &HostRuntime, number: u8) {
+    if rt.stderr().is_terminal() {
+        tell_alone(rt, number);
+    }
+}
+
+// Tells what was found of a fault with this number; if nothing was, what to do.
+fn tell_refused(rt: &HostRuntime, number: u8, refused: Option<RefusedLine>) {
+    match refused {
+        Some(refused) => {
+            let _ = write_refused(&refused, &mut Counted::new(rt.stderr()));
+            drop(refused);
+        }
+        None => tell_alone(rt, number),
+    }
+}
+
+// Tells what to do for a fault with this number.
+fn tell_alone(rt: &HostRuntime, number: u8) {
+    let refused = refused_alone(number);
+    let _ = write_refused(&refused, &mut Counted::new(rt.stderr()));
+    drop(refused);
+}
+
+// Tells why a file can't be read, where the system says it, and what to do.
+fn tell_unread(rt: &HostRuntime, name: &str) {
+    match reason_for(rt, name) {
+        Some(words) => {
+            let refused = refused_alone(READ_FAULT);
+            let sentence = refused.sentence;
+            let _ = eprintln!(rt; "{words}: {sentence}");
+            drop(refused);
+        }
+        None => tell_alone(rt, READ_FAULT),
+    }
+}
+
+// Tells why what a source copies can't be read, and in which folder it was looked for.
+fn tell_missing_copy(rt: &HostRuntime, name: &str, folder: &str) {
+    let folder = if folder.is_empty() { "./" } else { folder };
+    let words = reason_for(rt, name).unwrap_or("it can't be read");
+    let _ = eprintln!(rt;
+        "{words}: what a source copies is looked for in the folder of the source, {folder}"
+    );
+}
+
+// Why a file can't be read, where the system says it.
+fn reason_for(rt: &HostRuntime, name: &str) -> Option<&'static str> {
+    if name == STANDARD_INPUT {
+        return None;
+    }
+    match fs::metadata(rt, name) {
+        Ok(metadata) if metadata.is_dir() => told_reason(Some(ErrorKind::IsADirectory)),
+        Ok(metadata) if metadata.is_file() => match File::open(rt, name) {
+            Ok(_) => None,
+            Err(error) => told_reason(Some(error.kind())),
+        },
+        Ok(_) => None,
+        Err(error) => told_reason(Some(error.kind())),
+    }
+}
+
+// What is told of a fault of the file with this name, which is one of those with these names.
+fn refused_in_file(
+    rt: &HostRuntime,
+    fault: &RunFault,
+    name: &str,
+    names: &[String],
+) -> Option<RefusedLine> {
+    if fault.line == 0 {
+        return None;
+    }
+    let text = kept_file(rt, name)?;
+    let refused = refused_in_text(rt, fault, text.as_slice(), names);
+    drop(text);
+    refused
+}
+
+// What is told of a fault of a text, which the file has that is its input.
+fn refused_in_text(
+    rt: &HostRuntime,
+    fault: &RunFault,
+    text: &[u8],
+    names: &[String],
+) -> Option<RefusedLine> {
+    let Ok(keys) = random_keys(rt) else {
+        return None;
+    };
+    let refused = match surveyed_for(&fault.fault) {
+        Surveyed::Table => refused_in_table(rt.alloc(), keys, fault, text),
+        Surveyed::Delta => match table_before(rt, keys, fault.input, names) {
+            Some(table) => refused_in_delta(rt.alloc(), keys, fault, table, text),
+            None => refused_at(rt.alloc(), fault.fault.number(), fault.line, text),
+        },
+        Surveyed::Nothing => refused_at(rt.alloc(), fault.fault.number(), fault.line, text),
+    };
+    refused.ok()
+}
+
+// What is surveyed for a fault: the table or the delta file that it comes from, where it may be about something in a line.
+fn surveyed_for(fault: &Fault) -> Surveyed {
+    if fault.number() <= LAST_OF_LINES {
+        return Surveyed::Nothing;
+    }
+    match fault {
+        Fault::Load(found) => match found.cause {
+            LoadCause::NoCategory | LoadCause::NoEnd => Surveyed::Nothing,
+            _ => Surveyed::Table,
+        },
+        Fault::Syntax(_) | Fault::Table(_) => Surveyed::Delta,
+        _ => Surveyed::Nothing,
+    }
+}
+
+// What is told of a fault with this number at a line of the source in the file with this name.
+fn refused_in_source(rt: &HostRuntime, number: u8, line: u32, name: &str) -> Option<RefusedLine> {
+    if line == 0 {
+        return None;
+    }
+    let text = kept_file(rt, name)?;
+    let refused = refused_at(rt.alloc(), number, line, text.as_slice());
+    drop(text);
+    refused.ok()
+}
+
+// The table in the first of the files with these names, rewritten by those before a delta file.
+fn table_before(rt: &HostRuntime, keys: HashKeys, delta: usize, names: &[String]) -> Option<Table> {
+    let mut inputs = Vec::new(rt.alloc());
+    for name in names.get(..delta)? {
+        let file = regular_file(rt, name.as_str())?;
+        inputs.push(Counted::new(file)).ok()?;
+    }
+    read_before(rt, keys, inputs.as_mut_slice())
+}
+
+// The table in the first of these inputs, rewritten by the others.
+fn read_before(rt: &HostRuntime, keys: HashKeys, inputs: &mut [Counted<File>]) -> Option<Table> {
+    if inputs.is_empty() {
+        return None;
+    }
+    let (table, deltas) = inputs.split_at_mut(1);
+    read_inputs(rt.alloc(), keys, &mut table[0], deltas).ok()
+}
+
+// The text of a regular file.
+fn kept_file(rt: &HostRuntime, name: &str) -> Option<Vec<u8>> {
+    let file = regular_file(rt, name)?;
+    keep_text(rt.alloc(), 0, &mut Counted::new(file)).ok()
+}
+
+// A file, opened once more, if it is a regular one.
+fn regular_file(rt: &HostRuntime, name: &str) -> Option<File> {
+    if name == STANDARD_INPUT {
+        return None;
+    }
+    let metadata = fs::metadata(rt, name).ok()?;
+    if !metadata.is_file() {
+        return None;
+    }
+    File::open(rt, name).ok()
+}
