@@ -30,11 +30,10 @@ pub(crate) fn found_as(first: RunFault, faults: &mut Vec<FoundFault>) -> FoundFa
     ensures others { AreOthers faults.old.items faults.new.items }
     ensures once { AreOnce faults.old.items → AreOnce (result ∷ faults.new.items) }
 {
-    let told = match place_of(&first, faults.as_slice()) {
+    match place_of(&first, faults.as_slice()) {
         Some(place) => told_as(first, faults.remove(place)),
         None => told_alone(first),
-    };
-    told
+    }
 }
 
 // Where the first of these faults stands that is the one that a batch answers.

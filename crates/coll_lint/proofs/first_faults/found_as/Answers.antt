@@ -1,19 +1,16 @@
--- The fault that is told stands in place of the one that was found, or is found nowhere.
-use Rattle.std.proofs.Common.{◌<◌, List, length, inl, inr, refl, subst}
-use Rattle.coll_surveys.specs.declared.findings.FoundFault.{FoundFault}
+-- What is told stands in place of what was found, or of nothing.
+use Rattle.std.proofs.Common.{◌∷◌, refl}
 use Rattle.coll_lint.proofs.OrderLemmas.{once_alone, once_as_found}
 use Rattle.coll_lint.proofs.first_faults.found_as.Goals as goal
-use Rattle.coll_lint.proofs.first_faults.found_as.Goals.{in-Some, in-None}
 
-pub returns-clause-once : goal.returns-clause-once
-returns-clause-once c = λ once. elim c.match-place_of.branch [
-  | in-Some w ↦
-      let found = w.in-Some.ensures in
-      let told = w.told_as-told.ensures in
-      once_as_found c.args.faults.now.items c.as_slice.result.now (c.told ∷ c.self.new.items) w.in-Some.place w.remove.result w.told_as-told.result c.args.first c.as_slice.ensures.value found.within
-      w.remove.ensures.value (found.found w.remove.result) told.fault told.line told.about (cc (w.told-is, w.faults-is, w.remove.ensures.items)) once
-  | in-None w ↦ ?
-]
+pub returns-in-Some-clause-once : goal.returns-in-Some-clause-once
+returns-in-Some-clause-once c = λ once.
+    let found = c.in-Some.ensures in
+    let told = c.told_as.ensures in
+    once_as_found c.args.faults.now.items c.as_slice.result.now (c.told_as.result ∷ c.remove.new.self.items) c.in-Some.place c.remove.result c.told_as.result c.args.first c.as_slice.ensures.value found.within
+    c.remove.ensures.value (found.found c.remove.result) told.fault told.line told.about (cc (c.remove.ensures.items)) once
 
-pub returns-clause-others : goal.returns-clause-others
-returns-clause-others c = ?
+pub returns-in-None-clause-once : goal.returns-in-None-clause-once
+returns-in-None-clause-once c = λ once.
+    let told = c.told_alone.ensures in
+    once_alone c.args.faults.now.items c.as_slice.result.now (c.told_alone.result ∷ c.args.faults.now.items) c.told_alone.result c.args.first c.as_slice.ensures.value c.in-None.ensures.none told.fault told.line told.about refl once
