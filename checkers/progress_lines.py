@@ -6,8 +6,9 @@ usage: checkers/progress_lines.py [PROGRAM]
 PROGRAM is crates/collbench/out/collbench where none is given. One input of each run comes in parts with pauses, so that the run takes
 more than a second on any machine; its standard error is a terminal, and standard output a pipe. The line has to come, and not before
 half a second has passed; it says what is stated for the run, in this order, and is written at most ten times a second. At the end
-nothing of it stands on the screen, which shows what standard error has where it is no terminal. For that a second run gets the same
-input with the same pauses, and a pipe as standard error: there no line is, and standard output and the status are the same.
+nothing of it stands on the screen, which shows what standard error has where it is no terminal, and below that what to do, where the
+run is refused. For that a second run gets the same input with the same pauses, and a file as standard error: there no line is, and
+standard output and the status are the same.
 
 The last line is 'N passed, M failed', where a run is one of the list RUNS with its second one. Where the system has no pseudo-terminal
 none is run, and that is said.
@@ -36,20 +37,23 @@ WORDS = "b\nac\nab\nc\nd\n" * 48
 STATEMENTS = "".join(f"reorder-after <U006{1 + i % 2}>\n<U0063>\nreorder-end\n" for i in range(PARTS))
 DELTA = f"comment_char %\nescape_char /\nLC_COLLATE\n{STATEMENTS}END LC_COLLATE\n"
 FAULTY = "comment_char %\nescape_char /\nLC_COLLATE\norder_start\n<NONE>\norder_end\nEND LC_COLLATE\n"
-# Each run: the words behind the program, the file that comes in parts, or standard input, `-`, and what the line says, in this order.
+# What to do for its fault.
+TO_DO = "declare it with collating-symbol\n"
+# Each run: the words behind the program, the file that comes in parts, or standard input, `-`, what the line says, in this order, and what
+# stands on the screen at the end beside what standard error has without one.
 RUNS = [
-    (["sort", "base.txt"], "-", [READING, "sorting"]),
-    (["sort", "base.txt", "delta.txt"], "base.txt", [READING, "sorting"]),
-    (["review", "base.txt", "delta.txt", "words.txt"], "words.txt", [READING, "sorting"]),
-    (["review", "base.txt", "delta.txt", "words.txt"], "delta.txt", [r"statement \d+"]),
-    (["lint", "base.txt", "delta.txt"], "delta.txt", [READING, "surveying"]),
-    (["lint", "faulty.txt"], "faulty.txt", [READING, "surveying"]),
-    (["diff", "base.txt", "other.txt"], "base.txt", [READING, "comparing"]),
-    (["diff", "base.txt", "faulty.txt"], "faulty.txt", [READING]),
-    (["import", "source.txt"], "source_letters.txt", [READING, "importing"]),
-    (["import", "faulty.txt"], "faulty.txt", [READING, "importing"]),
-    (["import-delta", "letters.txt", "tailoring.txt"], "letters.txt", [READING, "importing"]),
-    (["import-delta", "faulty.txt", "tailoring.txt"], "faulty.txt", [READING]),
+    (["sort", "base.txt"], "-", [READING, "sorting"], ""),
+    (["sort", "base.txt", "delta.txt"], "base.txt", [READING, "sorting"], ""),
+    (["review", "base.txt", "delta.txt", "words.txt"], "words.txt", [READING, "sorting"], ""),
+    (["review", "base.txt", "delta.txt", "words.txt"], "delta.txt", [r"statement \d+"], ""),
+    (["lint", "base.txt", "delta.txt"], "delta.txt", [READING, "surveying"], ""),
+    (["lint", "faulty.txt"], "faulty.txt", [READING, "surveying"], ""),
+    (["diff", "base.txt", "other.txt"], "base.txt", [READING, "comparing"], ""),
+    (["diff", "base.txt", "faulty.txt"], "faulty.txt", [READING], TO_DO),
+    (["import", "source.txt"], "source_letters.txt", [READING, "importing"], ""),
+    (["import", "faulty.txt"], "faulty.txt", [READING, "importing"], ""),
+    (["import-delta", "letters.txt", "tailoring.txt"], "letters.txt", [READING, "importing"], ""),
+    (["import-delta", "faulty.txt", "tailoring.txt"], "faulty.txt", [READING], TO_DO),
 ]
 
 
@@ -149,7 +153,7 @@ def are_in_order(wanted, told):
     return all(any(re.fullmatch(pattern, text) for text in told) for pattern in wanted)
 
 
-def fault(program, words, slow, wanted, texts):
+def fault(program, words, slow, wanted, below, texts):
     """Returns what is wrong with the line of a run, or nothing."""
     with tempfile.TemporaryFile() as errors:
         plain = run(program, words, slow, texts, errors)
@@ -168,8 +172,8 @@ def fault(program, words, slow, wanted, texts):
         return f"the line comes after {began} seconds"
     if len(told) > MOST_A_SECOND * (taken - BEFORE):
         return f"the line is written {len(told)} times in {taken - BEFORE} seconds"
-    if on_screen(sent) != on_screen(without):
-        return f"in the end the screen shows {on_screen(sent)!r}, and not {without!r}"
+    if on_screen(sent) != on_screen(without + below):
+        return f"in the end the screen shows {on_screen(sent)!r}, and not {without + below!r}"
     return None
 
 
@@ -184,7 +188,7 @@ def run_all(program):
     texts = made_texts(program)
     with concurrent.futures.ThreadPoolExecutor(len(RUNS)) as pool:
         faults = list(pool.map(lambda it: fault(program, *it, texts), RUNS))
-    for (words, slow, _), what in zip(RUNS, faults):
+    for (words, slow, *_), what in zip(RUNS, faults):
         if what:
             print(f"FAILED: {' '.join(words)}, with {slow} in parts: {what}", flush=True)
     failed = sum(1 for what in faults if what)
