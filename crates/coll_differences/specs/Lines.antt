@@ -4,15 +4,13 @@ use Rattle.std.specs.Prelude.{codes, decimal, count_by, vec_len, encode_utf8_all
 use Rattle.std.specs.List.{flat_map}
 use Rattle.std.specs.Borrow.{Bor}
 use Rattle.coll_devices.specs.PhysicalLines.{line_feed}
-use Rattle.coll_syntax.specs.declared.identifiers.Id.{Id}
 use Rattle.coll_syntax.specs.declared.rules.Rule.{Rule}
-use Rattle.coll_syntax.specs.declared.weights.Weight.{Weight}
-use Rattle.coll_syntax.specs.declared.weights.Weight.TheVariants.{Ignore, Own, Names}
 use Rattle.coll_nodes.specs.declared.declarations.Declaration.{Declaration}
 use Rattle.coll_nodes.specs.declared.declarations.Declaration.TheVariants.{Symbol, Element, Equivalence}
 use Rattle.coll_nodes.specs.declared.entries.Entry.{Entry}
 use Rattle.coll_texts.specs.CanonicalText.{spelled_rule}
 use Rattle.coll_texts.specs.PrintedParts.{char_bytes, id_bytes, symbol_bytes}
+use Rattle.coll_texts.specs.WeighedEntries.{weighed_line}
 use Rattle.coll_differences.specs.declared.orders.Point.{Point}
 use Rattle.coll_differences.specs.declared.changes.Change.{Change}
 use Rattle.coll_differences.specs.declared.changes.Change.TheVariants.{Removed, Added, Moved}
@@ -67,26 +65,9 @@ change_told (Moved point behind) = worded (codes "moved ") (mark_of point) ++ be
 
 -- Weights.
 
--- a list of identifiers behind a mark: the identifier where there is one, and else all between quotation marks
-abbrev pub names_told : (mark : List ℕ) → List Id → List ℕ
-names_told mark [] = mark ++ codes "\"\""
-names_told mark (only ∷ []) = mark ++ id_bytes only
-names_told mark (first ∷ second ∷ later) = mark ++ (codes "\"" ++ (flat_map id_bytes (first ∷ second ∷ later) ++ codes "\""))
-
--- a weight of the entry of this identifier behind a mark: `IGNORE`, the identifier itself, or those of a list
-abbrev pub weight_told : (mark : List ℕ) → Id → Weight → List ℕ
-weight_told mark owner Ignore = mark ++ codes "IGNORE"
-weight_told mark owner Own = mark ++ id_bytes owner
-weight_told mark owner (Names ids) = names_told mark ids
-
--- the weights of the entry of this identifier, an own one by its identifier: a space before the first, a semicolon before each other
-abbrev pub all_weights : Id → List Weight → List ℕ
-all_weights owner [] = []
-all_weights owner (weight ∷ weights) = weight_told (codes " ") owner weight ++ flat_map (weight_told (codes ";") owner) weights
-
 -- the line of an entry with other weights: its identifier, and the weights that it has in the second table
 abbrev pub weights_told : Entry → List ℕ
-weights_told entry = codes "weights " ++ (id_bytes entry.id ++ (all_weights entry.id entry.weights ++ line_end))
+weights_told entry = codes "weights " ++ weighed_line entry
 
 -- that of a borrowed one
 abbrev pub lent_weights_told : Bor Entry → List ℕ

@@ -3,15 +3,15 @@
 //! Each line is a list of pieces, or parts one behind another where it has a list; which line tells what is `specs/Lines.antt`. None of
 //! this takes memory.
 
-ghost use Rattle.std.specs.Prelude.{◌≡◌, ◌++◌, chars, codes, count_by};
+ghost use Rattle.std.specs.Prelude.{◌≡◌, ◌++◌, chars, count_by};
 ghost use Rattle.std.specs.List.{flat_map};
 ghost use Rattle.coll_devices.specs.Devices.{Writes};
 ghost use Rattle.coll_nodes.specs.WalkItems.{declared_by};
 ghost use Rattle.coll_nodes.specs.declared.declarations.Declaration.TheVariants.{Element, Equivalence};
-ghost use Rattle.coll_texts.specs.PrintedParts.{id_bytes, symbol_bytes};
+ghost use Rattle.coll_texts.specs.PrintedParts.{symbol_bytes};
 ghost use Rattle.coll_differences.specs.Lines.{behind_told, change_told, counts_told, declaration_told, difference_told, differences_told};
 ghost use Rattle.coll_differences.specs.Lines.{line_end, mark_told, one_if, rule_word, rules_told, worded};
-ghost use Rattle.coll_differences.specs.Lines.{all_weights, lent_weights_told, names_told, weight_told, weights_told};
+ghost use Rattle.coll_differences.specs.Lines.{lent_weights_told, weights_told};
 ghost use Rattle.coll_differences.specs.Changes.{is_addition, is_move, is_removal};
 ghost use Rattle.coll_differences.specs.Orders.{mark_of};
 
@@ -19,9 +19,9 @@ use crate::changes::Change;
 use crate::differences::Differences;
 use crate::orders::Point;
 use coll_devices::{Sink, WriteStop, write_bytes};
-use coll_syntax::{Id, Rule, Weight};
+use coll_syntax::Rule;
 use coll_table::{DeclaredItem, Entry};
-use coll_texts::{Piece, write_pieces};
+use coll_texts::{Piece, write_id, write_pieces, write_weighed};
 
 /// Writes what differs between two tables: a line for each difference, and last a line of counts; or `same`.
 ///
@@ -231,104 +231,8 @@ fn write_all_weights<W: Sink>(out: &mut W, entries: &[&Entry]) -> Result<(), Wri
 fn write_reweighted<W: Sink>(out: &mut W, entry: &Entry) -> Result<(), WriteStop>
     ensures { Writes (W.taken out.old) (W.taken out.new) (W.failed out.old) (W.failed out.new) (weights_told entry.now) result }
 {
-    let id = entry.id();
     write_bytes(out, b"weights ")?;
-    write_id(out, id)?;
-    write_weights(out, id, entry.weights())?;
-    write_bytes(out, b"\n")
-}
-
-// Writes weights, an own one by the identifier of the entry, with a space before the first.
-fn write_weights<W: Sink>(out: &mut W, owner: &Id, weights: &[Weight]) -> Result<(), WriteStop>
-    ensures { Writes (W.taken out.old) (W.taken out.new) (W.failed out.old) (W.failed out.new) (all_weights owner.now weights.now) result }
-{
-    let Some((first, later)) = weights.split_first() else {
-        return Ok(());
-    };
-    write_weight(out, b" ", owner, first)?;
-    write_later_weights(out, owner, later)
-}
-
-// Writes weights with a semicolon before each.
-fn write_later_weights<W: Sink>(
-    out: &mut W,
-    owner: &Id,
-    weights: &[Weight],
-) -> Result<(), WriteStop>
-    ensures { Writes (W.taken out.old) (W.taken out.new) (W.failed out.old) (W.failed out.new)
-        (flat_map (weight_told (codes ";") owner.now) weights.now) result }
-{
-    for weight in weights {
-        if let Err(stop) = write_weight(out, b";", owner, weight) {
-            return Err(stop);
-        }
-    }
-    Ok(())
-}
-
-// Writes a weight of the entry of this identifier behind a mark.
-fn write_weight<'a, W: Sink>(
-    out: &mut W,
-    mark: &'a [u8],
-    owner: &'a Id,
-    weight: &'a Weight,
-) -> Result<(), WriteStop>
-    ensures { Writes (W.taken out.old) (W.taken out.new) (W.failed out.old) (W.failed out.new)
-        (weight_told mark.now owner.now weight.now) result }
-{
-    match weight {
-        Weight::Ignore => write_pieces(out, &[Piece::Bytes(mark), Piece::Bytes(b"IGNORE")]),
-        Weight::Own => write_marked(out, mark, owner),
-        Weight::Names(ids) => write_names(out, mark, ids.get()),
-    }
-}
-
-// Writes a list of identifiers behind a mark.
-fn write_names<'a, W: Sink>(out: &mut W, mark: &'a [u8], ids: &'a [Id]) -> Result<(), WriteStop>
-    ensures { Writes (W.taken out.old) (W.taken out.new) (W.failed out.old) (W.failed out.new) (names_told mark.now ids.now) result }
-{
-    match ids {
-        [] => write_pieces(out, &[Piece::Bytes(mark), Piece::Bytes(b"\"\"")]),
-        [only] => write_marked(out, mark, only),
-        _ => write_string(out, mark, ids),
-    }
-}
-
-// Writes an identifier behind a mark.
-fn write_marked<'a, W: Sink>(out: &mut W, mark: &'a [u8], id: &'a Id) -> Result<(), WriteStop>
-    ensures { Writes (W.taken out.old) (W.taken out.new) (W.failed out.old) (W.failed out.new) (mark.now ++ id_bytes id.now) result }
-{
-    write_pieces(out, &[Piece::Bytes(mark), Piece::Id(id)])
-}
-
-// Writes identifiers between quotation marks, behind a mark.
-fn write_string<W: Sink>(out: &mut W, mark: &[u8], ids: &[Id]) -> Result<(), WriteStop>
-    ensures { Writes (W.taken out.old) (W.taken out.new) (W.failed out.old) (W.failed out.new)
-        (mark.now ++ (codes "\"" ++ (flat_map id_bytes ids.now ++ codes "\""))) result }
-{
-    write_bytes(out, mark)?;
-    write_bytes(out, b"\"")?;
-    write_ids(out, ids)?;
-    write_bytes(out, b"\"")
-}
-
-// Writes identifiers one behind another.
-fn write_ids<W: Sink>(out: &mut W, ids: &[Id]) -> Result<(), WriteStop>
-    ensures { Writes (W.taken out.old) (W.taken out.new) (W.failed out.old) (W.failed out.new) (flat_map id_bytes ids.now) result }
-{
-    for id in ids {
-        if let Err(stop) = write_id(out, id) {
-            return Err(stop);
-        }
-    }
-    Ok(())
-}
-
-// Writes an identifier.
-fn write_id<W: Sink>(out: &mut W, id: &Id) -> Result<(), WriteStop>
-    ensures { Writes (W.taken out.old) (W.taken out.new) (W.failed out.old) (W.failed out.new) (id_bytes id.now) result }
-{
-    write_pieces(out, &[Piece::Id(id)])
+    write_weighed(out, entry)
 }
 
 // Writes the line of counts.

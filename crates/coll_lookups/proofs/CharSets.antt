@@ -1,5 +1,5 @@
 -- Characters in a set: what is found there, and what one more does.
-use Rattle.std.proofs.Common.{◌≡◌, ◌<◌, ◌≤◌, ◌+◌, ◌-◌, ◌*◌, ℕ, zero, suc, Bool, true, false, ◌||◌, cond, nat_eq, nat_lt, List, ◌∷◌, Some, None, length, slice_index_or, slice_set, arith, sym, ap, ◌∙◌, refl}
+use Rattle.std.proofs.Common.{◌≡◌, ◌<◌, ◌≤◌, ◌+◌, ◌-◌, ◌*◌, ℕ, zero, suc, Bool, true, false, ◌||◌, ◌&&◌, not, cond, nat_eq, nat_lt, List, ◌∷◌, Some, None, length, slice_index_or, slice_set, arith, sym, ap, ◌∙◌, refl}
 use Rattle.std.specs.List.{list_any}
 use Rattle.std.proofs.lemmas.Bool.{ltb-true, ltb-false}
 use Rattle.std.proofs.lemmas.Bool.Decides.{Decides-eqb}
@@ -72,6 +72,11 @@ module _ (old : List ℕ) (old_marks : List Bool) (new : List ℕ) (marks : List
       (λ i. marked_below (λ c. same c i) (length new * 128))
       ∙ (ap (marked_below (slot_of false old old_marks)) count ∙ more_unmarked (slot_of false old old_marks) more (length old * 128) (past_pages false old old_marks))
 
+  -- the mark of a character was there if the character was
+  pub marked_before : ArePages new (length marks) → (c place : ℕ) (mark : Bool) → place_of new c ≡ Some place → mark ≡ slice_index_or marks place mark → mark
+      ≡ list_any (nat_eq c) (marked_at old old_marks)
+  marked_before are c place mark at read = slot_read false new marks are c place at mark read ∙ (same c ∙ sym (found_mark old old_marks c))
+
   -- the character is there, and each other where it was
   pub marked_more : ArePages new (length marks) → (c place : ℕ) → place_of new c ≡ Some place → (other : ℕ)
       → list_any (nat_eq other) (marked_at new (slice_set marks place true)) ≡ (nat_eq other c || list_any (nat_eq other) (marked_at old old_marks))
@@ -82,3 +87,24 @@ module _ (old : List ℕ) (old_marks : List Bool) (new : List ℕ) (marks : List
         either : (a b : Bool) → cond a true b ≡ (a || b)
         either true b = refl
         either false b = refl
+
+-- A mark that is taken away.
+
+module _ (pages : List ℕ) (marks : List Bool) where
+  -- the character isn't there any more, and each other where it was
+  pub marked_less : ArePages pages (length marks) → (c place : ℕ) → place_of pages c ≡ Some place → (other : ℕ)
+      → list_any (nat_eq other) (marked_at pages (slice_set marks place false)) ≡ (not (nat_eq other c) && list_any (nat_eq other) (marked_at pages marks))
+  marked_less are c place at other =
+      found_mark pages (slice_set marks place false) other
+      ∙ (slot_written false pages marks are c place at false other
+      ∙ (neither (nat_eq other c) (slot_of false pages marks other) ∙ ap (λ b. not (nat_eq other c) && b) (sym (found_mark pages marks other)))) where
+        neither : (a b : Bool) → cond a false b ≡ (not a && b)
+        neither true b = refl
+        neither false b = refl
+
+  -- nothing changes where it has no place, since it isn't there
+  pub unmarked : (c : ℕ) → None ≡ place_of pages c → (other : ℕ) → list_any (nat_eq other) (marked_at pages marks) ≡ (not (nat_eq other c) && list_any (nat_eq other) (marked_at pages marks))
+  unmarked c none other = by (nat_eq other c) refl where
+    by : (b : Bool) → nat_eq other c ≡ b → list_any (nat_eq other) (marked_at pages marks) ≡ (not b && list_any (nat_eq other) (marked_at pages marks))
+    by true t = ap (λ k. list_any (nat_eq k) (marked_at pages marks)) ((Decides-eqb other c).0 t) ∙ sym (found_nowhere pages marks c none)
+    by false t = refl

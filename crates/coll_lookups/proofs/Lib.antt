@@ -3,7 +3,7 @@ mod CharPages
 mod CharSets
 pub mod IdSets
 pub mod FollowedNumbers
-mod NameNodes
+pub mod NameNodes
 pub mod NameSets
 mod NodeLookUps
 mod PairedNodes

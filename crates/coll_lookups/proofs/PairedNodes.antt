@@ -107,6 +107,12 @@ module _ {K : Type 0} (eq : K → K → Bool) (k : K) (v : Option NodeId) where
     by false later =
         (λ i. zip (key_behind (list_any (eq k) ks) x ks i) (node_behind w ws (position_or_len (eq k) ks) i)) ∙ ap (λ es. (x, w) ∷ es) later
 
+  -- so it is of keys and nodes that are known to be these
+  pub paired_put_as : (ks more : List K) (vs grown put : List (Option NodeId)) (place : ℕ) → length ks ≡ length vs → more ≡ insert_key eq ks k → grown ≡ vs → place ≡ position_or_len (eq k) ks
+      → put ≡ node_put grown place v → zip more put ≡ insert_entry eq (zip ks vs) k v
+  paired_put_as ks more vs grown put place e keys room at written =
+      (λ i. zip (keys i) (written i)) ∙ ((λ i. zip (insert_key eq ks k) (node_put (room i) (at i) v)) ∙ paired_put ks vs e)
+
   -- and each key has its node still
   pub paired_length : (ks : List K) (vs : List (Option NodeId)) → length ks ≡ length vs → length (insert_key eq ks k) ≡ length (node_put vs (position_or_len (eq k) ks) v)
   paired_length [] [] e = refl

@@ -3,7 +3,7 @@
 //! Each range of 128 code points with a character has a page of marks (`char_pages`), 128 bytes, whatever the characters are: at
 //! most 1.1 MB, where each range has one.
 
-ghost use Rattle.std.specs.Prelude.{◌≡◌, ◌||◌, [], ℕ, nat_eq, OnOk, OnErr};
+ghost use Rattle.std.specs.Prelude.{◌≡◌, ◌||◌, ◌&&◌, [], ℕ, nat_eq, not, IfOk, OnOk, OnErr};
 ghost use Rattle.std.specs.List.{list_any};
 
 use crate::char_pages::{make_place, place_of};
@@ -12,7 +12,7 @@ use std::marker::Model;
 
 /// Characters, each once.
 #[derive(Drop)]
-pub(crate) struct CharSet {
+pub struct CharSet {
     // The number of the page of each range of code points, from 1; 0 for none. Behind the last range that has one there may be none.
     pages: Vec<u16>,
     marks: Vec<bool>,
@@ -33,7 +33,7 @@ impl Model for CharSet {
 impl CharSet {
     /// No characters. It takes no memory.
     #[tactic(auto, using(crate::proofs::CharPages::no_pages), unfolding(crate::specs::CharSets::marked_below))]
-    pub(crate) fn new(alloc: Global) -> CharSet
+    pub fn new(alloc: Global) -> CharSet
         ensures { result ≡ [] }
     {
         CharSet {
@@ -43,7 +43,8 @@ impl CharSet {
     }
 
     /// Whether a character is there. It takes no memory.
-    pub(crate) fn contains(&self, c: char) -> bool
+    #[inline]
+    pub fn contains(&self, c: char) -> bool
         ensures { result ≡ list_any (nat_eq c) self.now }
     {
         match place_of(&self.pages, c) {
@@ -52,13 +53,25 @@ impl CharSet {
         }
     }
 
-    /// Puts a character in. One that is there stays. Where memory is refused, nothing has changed.
-    pub(crate) fn insert(&mut self, c: char) -> Result<(), AllocError>
+    /// Puts a character in, and answers whether it wasn't there. One that is there stays. Where memory is refused, nothing has
+    /// changed.
+    pub fn put(&mut self, c: char) -> Result<bool, AllocError>
+        ensures free { IfOk result (λ free. free ≡ not (list_any (nat_eq c) self.old)) }
         ensures ok { OnOk result ((other : ℕ) → list_any (nat_eq other) self.new ≡ (nat_eq other c || list_any (nat_eq other) self.old)) }
         ensures err { OnErr result (self.new ≡ self.old) }
     {
         let place = make_place(&mut self.pages, &mut self.marks, c, false)?;
+        let free = !self.marks[place];
         self.marks[place] = true;
-        Ok(())
+        Ok(free)
+    }
+
+    /// Takes a character out, if it is there. It takes no memory.
+    pub fn take_out(&mut self, c: char)
+        ensures { (other : ℕ) → list_any (nat_eq other) self.new ≡ (not (nat_eq other c) && list_any (nat_eq other) self.old) }
+    {
+        if let Some(place) = place_of(&self.pages, c) {
+            self.marks[place] = false;
+        }
     }
 }

@@ -86,8 +86,7 @@ impl IdSet {
         ensures ok { OnOk result (AddsId self.old self.new (Char c)) }
         ensures err { OnErr result (self.new ≡ self.old) }
     {
-        let free = !self.chars.contains(c);
-        self.chars.insert(c)?;
+        let free = self.chars.put(c)?;
         Ok(free)
     }
 

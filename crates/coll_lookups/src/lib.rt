@@ -28,9 +28,11 @@ mod node_ids;
 mod node_names;
 mod word_hashing;
 
+pub use char_sets::CharSet;
 pub use entry_numbers::EntryNumbers;
 pub use hash_keys::HashKeys;
 pub use id_sets::IdSet;
+pub use name_keys::{NameKey, NameText};
 pub use name_places::NamePlaces;
 pub use node_ids::NodeIds;
 pub use node_names::NodeNames;

@@ -18,13 +18,13 @@ use std::hash::{Hash, Hasher};
 
 /// A name as a key.
 #[derive(Drop)]
-pub(crate) struct NameKey {
+pub struct NameKey {
     name: TextBuf,
 }
 
 impl NameKey {
     /// A copy of a name. One that lies in its value takes no memory.
-    pub(crate) fn copied(name: &TextBuf) -> Result<NameKey, AllocError>
+    pub fn copied(name: &TextBuf) -> Result<NameKey, AllocError>
         ensures name { IfOk result (λ key. key.name ≡ name.now) }
         ensures text { IfOk result IsReadBack }
     {
@@ -32,6 +32,14 @@ impl NameKey {
         let _bytes = name.get();
         let name = name.try_copy()?;
         Ok(NameKey { name })
+    }
+
+    /// Lends the text.
+    #[inline]
+    pub fn text(&self) -> &str
+        ensures { result.now ≡ bytes_of self.now }
+    {
+        self.name.get()
     }
 }
 
@@ -48,6 +56,7 @@ impl PartialEq for NameKey {
 
     ghost laws = { on_per bytes_of (partial_equiv_from_equiv nat_list_eq_equiv) };
 
+    #[inline]
     fn eq(&self, other: &NameKey) -> bool {
         self.name.get() == other.name.get()
     }
@@ -62,6 +71,7 @@ impl Hash for NameKey {
 
     ghost respects_eq = { λ a b same. ap one_write ((bytes_decides (bytes_of a) (bytes_of b)).0 same) };
 
+    #[inline]
     fn hash<H: Hasher>(&self, state: &mut H) {
         state.write(self.name.get().as_bytes());
     }
@@ -69,9 +79,9 @@ impl Hash for NameKey {
 
 /// The text of a name, by which its key is found.
 #[derive(Clone, Copy)]
-pub(crate) struct NameText<'a> {
+pub struct NameText<'a> {
     /// The text.
-    pub(crate) text: &'a str,
+    pub text: &'a str,
 }
 
 impl<'a> PartialEq for NameText<'a> {
@@ -79,6 +89,7 @@ impl<'a> PartialEq for NameText<'a> {
 
     ghost laws = { on_per text_bytes (partial_equiv_from_equiv nat_list_eq_equiv) };
 
+    #[inline]
     fn eq(&self, other: &NameText<'a>) -> bool {
         self.text == other.text
     }
@@ -93,6 +104,7 @@ impl<'a> Hash for NameText<'a> {
 
     ghost respects_eq = { λ a b same. ap one_write ((bytes_decides (text_bytes a) (text_bytes b)).0 same) };
 
+    #[inline]
     fn hash<H: Hasher>(&self, state: &mut H) {
         state.write(self.text.as_bytes());
     }
@@ -105,6 +117,7 @@ impl<'a> Equivalent<NameKey> for NameText<'a> {
 
     ghost respects_eq = { λ text a b. nat_list_eq_equiv.congr (text_bytes text) (bytes_of a) (bytes_of b) };
 
+    #[inline]
     fn equivalent(&self, key: &NameKey) -> bool {
         self.text == key.name.get()
     }

@@ -1,3 +1,1 @@
-pub mod CharSets
 pub mod LeftOut
-pub mod NameKeys

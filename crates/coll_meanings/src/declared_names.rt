@@ -13,14 +13,13 @@
 //! What an order line names and is no name can't be declared. It is kept apart, so that it is found again where it is placed twice.
 
 use crate::known_names::{Alike, EndedRange, KnownNames, Meaning, NameGuess, Taken};
-use crate::name_keys::{NameKey, NameText};
 use crate::placed::Found;
 use crate::table_names::{
     is_symbol_of, is_symbol_of_table, meant_by_table, own_id_of_second, own_name, own_of_second,
 };
 use crate::{DeclaredRange, SourceStatement};
 use coll_lex::{TextBuf, is_name};
-use coll_lookups::{HashKeys, WordKeys};
+use coll_lookups::{HashKeys, NameKey, NameText, WordKeys};
 use coll_nodes::{DeclaredItem, MOST_DECLARATIONS};
 use coll_sources::{
     Adjustment, Declaration, Lost, NameRange, Report, Said, SourceFault, SourceLine, SourcePlace,

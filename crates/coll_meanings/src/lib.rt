@@ -6,20 +6,18 @@
 //! by tests alone. A way through the crate:
 //!
 //! - `source_statements`: what is made of the lines of a source, with its place (`LeftOut`);
-//! - `name_keys` and `known_names`: what is known of each name, found by hash or at a guess (`NameKeys`);
+//! - `known_names`: what is known of each name, found by hash or at a guess;
 //! - `declared_names`: what each name of a source means, and what is declared; `meanings`, over no table, and `table_meanings`, over one
 //!   that is tailored, in which `table_names` asks for a name;
-//! - `placed`: what an order places, by what was found of it, and `source_ids`: sets of identifiers, both with characters in `char_sets`;
+//! - `placed`: what an order places, by what was found of it, and `source_ids`: sets of identifiers;
 //! - `ellipses`, with `order_lines`: the characters between two order lines;
 //! - `weights`: weights by what is placed.
 #![tactic(auto)]
 
-mod char_sets;
 mod declared_names;
 mod ellipses;
 mod known_names;
 mod meanings;
-mod name_keys;
 mod order_lines;
 mod placed;
 mod source_ids;

@@ -1,11 +1,10 @@
 //! What an order places, by what was found of it.
 //!
 //! An identifier is looked up once (`Meanings::found`): a name that is declared has a number from then on, and so whether it is placed,
-//! which is asked of each order line and of each identifier in a weight, takes no other look at its name. Characters have numbers of
-//! their own, and so none is hashed (`CharSet`).
+//! which is asked of each order line and of each identifier in a weight, takes no other look at its name. Characters are
+//! found by code point, and so none is hashed (`CharSet`).
 
-use crate::char_sets::CharSet;
-use coll_lookups::HashKeys;
+use coll_lookups::{CharSet, HashKeys};
 use std::alloc::{AllocError, Global};
 
 /// What was found of an identifier.

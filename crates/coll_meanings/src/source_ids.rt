@@ -1,11 +1,9 @@
 //! Sets of the identifiers of a source.
 //!
-//! Characters stand by their numbers (`CharSet`), so a tailoring that moves ten thousands of them hashes none. Names are looked up by
+//! Characters are found by code point (`CharSet`), so a tailoring that moves ten thousands of them hashes none. Names are looked up by
 //! hash, and a short one takes no memory of its own.
 
-use crate::char_sets::CharSet;
-use crate::name_keys::{NameKey, NameText};
-use coll_lookups::{HashKeys, WordKeys};
+use coll_lookups::{CharSet, HashKeys, NameKey, NameText, WordKeys};
 use coll_syntax::Id;
 use indexmap::IndexSet;
 use std::alloc::{AllocError, Global};

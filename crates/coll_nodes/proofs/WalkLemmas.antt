@@ -1,5 +1,5 @@
 -- Walks: what is left of a ring from a node on, and what a step leaves.
-use Rattle.std.proofs.Common.{◌≡◌, ◌<◌, ℕ, Bool, true, false, ◌||◌, cond, List, [], ◌∷◌, ◌++◌, Option, Some, None, length, map, sym, ap, subst, ◌∙◌, refl, arith}
+use Rattle.std.proofs.Common.{◌≡◌, ◌<◌, ℕ, suc, Bool, true, false, ◌||◌, cond, List, [], ◌∷◌, ◌++◌, Option, Some, None, length, map, sym, ap, subst, ◌∙◌, refl, arith}
 use Rattle.std.specs.List.{flat_map}
 use Rattle.std.specs.Iterator.{MakesProgress, item_count}
 use Rattle.std.proofs.lemmas.List.{append_assoc}
@@ -87,6 +87,14 @@ module _ (layout : TableLayout) (ring : RingId) (node : NodeId) (next : Option N
         behind prefix (first ∷ rest) e =
             let whole : nodes_in layout ring ≡ (prefix ++ node ∷ []) ++ first ∷ rest = e ∙ sym (append_assoc prefix (node ∷ []) (first ∷ rest)) in
             ap (λ nodes. has_node nodes first) whole ∙ has_here (prefix ++ node ∷ []) rest first
+
+-- behind a step fewer are left
+pub fewer_left : (layout : TableLayout) (ring : RingId) (left : Option NodeId) (node : NodeId) (next : Option NodeId) → IsLaidOut layout → left ≡ Some node → StandsIfAny layout ring left
+    → ComesNext layout.rings node next → length (left_of layout ring next) < length (left_of layout ring left)
+fewer_left layout ring left node next laid is stands comes =
+    let there : has_node (nodes_in layout ring) node ≡ true = subst (StandsIfAny layout ring) is stands in
+    let more : length (left_of layout ring left) ≡ suc (length (left_of layout ring next)) = ap length (ap (left_of layout ring) is ∙ left_next layout ring node next laid there comes) in
+    omega (arith, more)
 
 module _ (layout : TableLayout) (ring : RingId) (node : NodeId) where
   module _ (section : Option NodeId) (on : IsOnWay layout ring (Some node) section) where

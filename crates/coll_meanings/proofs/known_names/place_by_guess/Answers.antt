@@ -1,7 +1,7 @@
 -- A name that is found at a guess stands at its place.
 use Rattle.std.proofs.Common.{◌∙◌, ltb-true, sym}
 use Rattle.indexmap.specs.IndexMap.{keys}
-use Rattle.coll_meanings.proofs.NameLemmas.{guessed_place}
+use Rattle.coll_lookups.proofs.NameNodes.{guessed_place}
 use Rattle.coll_meanings.proofs.known_names.place_by_guess.Goals as goal
 
 pub returns-then-equivalent : goal.returns-then-equivalent

@@ -1,11 +1,11 @@
 -- One section more is gone past.
-use Rattle.std.proofs.Common.{◌≡◌, ◌∙◌, true, false, None, Some, ap, sym, subst, arith, length}
+use Rattle.std.proofs.Common.{◌≡◌, ◌∙◌, true, false, None, Some, ap, sym, subst}
 use Rattle.coll_order.specs.Lists.{first_in, has_node}
 use Rattle.coll_nodes.specs.NodesBeside.{before_among, is_asked, section_among}
 use Rattle.coll_nodes.specs.TableLayout.{nodes_in, sections_ring}
 use Rattle.coll_nodes.specs.WalkStates.{StandsIfAny, left_of}
 use Rattle.coll_nodes.proofs.BesideNodes.{asked_here, before_here, before_later, not_asked}
-use Rattle.coll_nodes.proofs.WalkLemmas.{cut_at, left_first, left_next, stands_first, stands_next}
+use Rattle.coll_nodes.proofs.WalkLemmas.{cut_at, fewer_left, left_first, left_next, stands_first, stands_next}
 use Rattle.coll_nodes.proofs.neighbours.find_section.Goals as goal
 
 pub sections-init : goal.sections-init
@@ -21,11 +21,7 @@ sections-init c =
     }
 
 pub sections-smaller : goal.sections-smaller
-sections-smaller c =
-    let layout = c.args.nodes.now.layout in
-    let there : has_node (nodes_in layout sections_ring) c.in-Some.section ≡ true = subst (StandsIfAny layout sections_ring) c.in-Some.is c.sections.invariant.stands in
-    let left = ap length (ap (left_of layout sections_ring) c.in-Some.is ∙ left_next layout sections_ring c.in-Some.section c.next-left.result c.lemma_layout.ensures there c.next-left.ensures) in
-    omega (arith, left)
+sections-smaller c = fewer_left c.args.nodes.now.layout sections_ring _ c.in-Some.section c.next-left.result c.lemma_layout.ensures c.in-Some.is c.sections.invariant.stands c.next-left.ensures
 
 pub sections-preserved : goal.sections-preserved
 sections-preserved c =

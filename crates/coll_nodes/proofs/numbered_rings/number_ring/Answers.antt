@@ -4,15 +4,11 @@ use Rattle.coll_order.specs.Lists.{has_node}
 use Rattle.coll_nodes.specs.TableLayout.{nodes_in}
 use Rattle.coll_nodes.specs.WalkStates.{StandsIfAny, left_of}
 use Rattle.coll_nodes.proofs.NumberedNodes.{one_numbered}
-use Rattle.coll_nodes.proofs.WalkLemmas.{left_next, stands_next}
+use Rattle.coll_nodes.proofs.WalkLemmas.{fewer_left, left_next, stands_next}
 use Rattle.coll_nodes.proofs.numbered_rings.number_ring.Goals as goal
 
 pub entries-smaller : goal.entries-smaller
-entries-smaller c =
-    let layout = c.args.nodes.now.layout in
-    let there : has_node (nodes_in layout c.args.ring) c.in-Some.node ≡ true = subst (StandsIfAny layout c.args.ring) c.in-Some.is c.entries.invariant.stands in
-    let left = ap length (ap (left_of layout c.args.ring) c.in-Some.is ∙ left_next layout c.args.ring c.in-Some.node c.next-left.result c.lemma_layout.ensures there c.next-left.ensures) in
-    omega (arith, left)
+entries-smaller c = fewer_left c.args.nodes.now.layout c.args.ring _ c.in-Some.node c.next-left.result c.lemma_layout.ensures c.in-Some.is c.entries.invariant.stands c.next-left.ensures
 
 pub entries-preserved : goal.entries-preserved
 entries-preserved c =

@@ -6,7 +6,7 @@ use Rattle.coll_nodes.specs.SoundBodies.{read_at}
 use Rattle.coll_nodes.specs.TableLayout.{nodes_in, sections_ring}
 use Rattle.coll_nodes.specs.WalkStates.{StandsIfAny, left_of}
 use Rattle.coll_nodes.proofs.NumberedNodes.{section_numbered}
-use Rattle.coll_nodes.proofs.WalkLemmas.{cut_at, left_next, stands_next}
+use Rattle.coll_nodes.proofs.WalkLemmas.{cut_at, fewer_left, left_next, stands_next}
 use Rattle.coll_nodes.proofs.numbered_rings.number_sections.Goals as goal
 
 pub number_section-requires-clause-few : goal.number_section-requires-clause-few
@@ -20,11 +20,7 @@ number_section-requires-clause-few c =
     omega (arith, left, c.sections.invariant.count, c.requires.few)
 
 pub sections-smaller : goal.sections-smaller
-sections-smaller c =
-    let layout = c.args.nodes.now.layout in
-    let there : has_node (nodes_in layout sections_ring) c.in-Some.section ≡ true = subst (StandsIfAny layout sections_ring) c.in-Some.is c.sections.invariant.stands in
-    let left = ap length (ap (left_of layout sections_ring) c.in-Some.is ∙ left_next layout sections_ring c.in-Some.section c.next-left.result c.lemma_layout.ensures there c.next-left.ensures) in
-    omega (arith, left)
+sections-smaller c = fewer_left c.args.nodes.now.layout sections_ring _ c.in-Some.section c.next-left.result c.lemma_layout.ensures c.in-Some.is c.sections.invariant.stands c.next-left.ensures
 
 pub sections-preserved : goal.sections-preserved
 sections-preserved c =

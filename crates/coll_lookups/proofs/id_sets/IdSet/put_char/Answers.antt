@@ -7,9 +7,9 @@ use Rattle.coll_lookups.proofs.id_sets.IdSet.put_char.Goals as goal
 pub returns-clause-free : goal.returns-clause-free
 returns-clause-free c =
     let p = c.self.inside in
-    rw (← c.self.view_is) (ap not (c.contains-free.ensures ∙ sym (found_place p.names p.chars p.undefined (Char c.args.c))))
+    rw (← c.self.view_is) (c.in_ok-free.ensures.free ∙ ap not (sym (found_place p.names p.chars p.undefined (Char c.args.c))))
 
 pub returns-clause-ok : goal.returns-clause-ok
 returns-clause-ok c =
     let p = c.self.inside in
-    rw (← c.self.view_is) (adds_char p.names p.chars c.insert.new.self p.undefined c.args.c c.in_ok-insert.ensures.ok)
+    rw (← c.self.view_is) (adds_char p.names p.chars c.put.new.self p.undefined c.args.c c.in_ok-free.ensures.ok)

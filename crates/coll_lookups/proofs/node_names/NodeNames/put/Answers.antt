@@ -2,7 +2,7 @@
 use Rattle.std.proofs.Common.{refl, sym, ap, ap₂, slice_index_or, None, ◌∙◌, length, arith}
 use Rattle.std.proofs.lemmas.Str.{length-le-encodes}
 use Rattle.coll_lookups.specs.NameKeys.{same_bytes}
-use Rattle.coll_lookups.proofs.PairedNodes.{paired_found, paired_put, paired_length}
+use Rattle.coll_lookups.proofs.PairedNodes.{paired_found, paired_put, paired_put_as, paired_length}
 use Rattle.coll_lookups.proofs.NameNodes.{found_name_node, inserted_name_leads, inserted_name_keys, inserted_name_good, inserted_name_within}
 use Rattle.coll_lookups.proofs.node_names.NodeNames.put.Goals as goal
 
@@ -29,11 +29,8 @@ returns-clause-ok c =
     rw (
       ← c.self.view_is,
       ← c.in_ok-key.ensures.name,
-      c.put_node.ensures.put,
-      c.in_ok-reserve.ensures.items,
-      c.in_ok-place.ensures.ok,
-      c.in_ok-place.ensures.place,
-      paired_put same_bytes key c.args.node p.names.value.keys p.nodes.items c.self.invariant.0,
+      paired_put_as same_bytes key c.args.node p.names.value.keys _ p.nodes.items _ _ _ c.self.invariant.0 c.in_ok-place.ensures.ok
+          c.in_ok-reserve.ensures.items c.in_ok-place.ensures.place c.put_node.ensures.put,
     )
     (inserted_name_leads _ key c.args.node c.self.invariant.1 c.in_ok-key.ensures.text)
 
@@ -44,11 +41,8 @@ returns-clause-keys c =
     rw (
       ← c.self.view_is,
       ← c.in_ok-key.ensures.name,
-      c.put_node.ensures.put,
-      c.in_ok-reserve.ensures.items,
-      c.in_ok-place.ensures.ok,
-      c.in_ok-place.ensures.place,
-      paired_put same_bytes key c.args.node p.names.value.keys p.nodes.items c.self.invariant.0,
+      paired_put_as same_bytes key c.args.node p.names.value.keys _ p.nodes.items _ _ _ c.self.invariant.0 c.in_ok-place.ensures.ok
+          c.in_ok-reserve.ensures.items c.in_ok-place.ensures.place c.put_node.ensures.put,
     )
     (inserted_name_keys _ key c.args.node c.self.invariant.1 c.in_ok-key.ensures.text)
 

@@ -1,2 +1,0 @@
-mod CharSets
-mod NameLemmas
