@@ -1,5 +1,5 @@
 -- Parts of a text that are written one behind another make up the text.
-use Rattle.std.proofs.Common.{◌≡◌, ℕ, ◌+◌, ◌<◌, Bool, true, false, List, [], ◌∷◌, ◌++◌, length, get_or, drop, map, codes, Option, Some, Result, IsErr, sym, ap, subst, ◌∙◌, refl}
+use Rattle.std.proofs.Common.{◌≡◌, ℕ, ◌+◌, ◌<◌, Bool, true, false, List, [], ◌∷◌, ◌++◌, length, get_or, drop, map, codes, Option, Some, None, Result, IsErr, sym, ap, subst, ◌∙◌, refl, arith}
 use Rattle.std.proofs.Common.{append_assoc, append-nil}
 use Rattle.std.specs.Prelude.{encode_utf8_all}
 use Rattle.std.specs.Io.KnownBytes.{Appends}
@@ -8,7 +8,10 @@ use Rattle.std.proofs.KnownBytes.{Appends-trans}
 use lib.Utf8.{encode}
 use Rattle.std.proofs.lemmas.Grind.{flat_map-append}
 use Rattle.std.proofs.lemmas.Str.{encodes-append}
-use Rattle.std.proofs.lemmas.List.{drop_more}
+use Rattle.std.specs.Iterator.{Yields}
+use Rattle.std.proofs.lemmas.Iterator.{YieldsList}
+use Rattle.std.proofs.lemmas.Iterator.Consumers.{YieldsList-turn, YieldsList-end}
+use Rattle.std.proofs.lemmas.List.{drop_all, drop_more, length_push}
 use Rattle.coll_devices.specs.Devices.{AppendsPrefix, Sends}
 use Rattle.coll_devices.specs.PhysicalLines.{line_feed}
 use Rattle.coll_lex.specs.Characters.{space}
@@ -71,6 +74,29 @@ module _ {X : Type 0} (part : X → List ℕ) where
   -- all are written
   pub written_all : (all left : List X) (a b : Option (List ℕ)) → left ≡ [] → HasWritten all left a b → Appends a b (flat_map part all)
   written_all all left a b none h = subst (Appends a b) (sym (h.1 ∙ ap (λ xs. h.0 ++ flat_map part xs) none ∙ append-nil h.0)) h.2
+
+-- Members that are yielded one after another, each written as one part.
+
+module _ {S X : Type 0} {steps : S → Option X → S → Type 0} {start now next : S} {all : List X} (part : X → List ℕ) (road : YieldsList steps (λ x. x) start all)
+    (yielded : List X) (so_far : Yields steps start yielded now) (given : Option X) (step : steps now given next)
+    (a b : Option (List ℕ)) (h : HasWritten part all (drop (length yielded) all) a b) where
+  -- one more is written
+  pub yielded_more : (x : X) (c : Option (List ℕ)) → given ≡ Some x → Appends b c (part x) → HasWritten part all (drop (length (yielded ++ x ∷ [])) all) a c
+  yielded_more x c is more =
+      let turn = YieldsList-turn road yielded now so_far given next x is step in
+      rw (length_push yielded x) (written_more part all _ _ x a b c (left_begins all (length yielded) x turn.0 turn.1) h more)
+
+  -- the next stops
+  pub yielded_prefix : (x : X) (c : Option (List ℕ)) → given ≡ Some x → AppendsPrefix b c (part x) → AppendsPrefix a c (flat_map part all)
+  yielded_prefix x c is stop =
+      let turn = YieldsList-turn road yielded now so_far given next x is step in
+      written_prefix part all _ _ x a b c (left_begins all (length yielded) x turn.0 turn.1) h stop
+
+  -- all are written
+  pub yielded_all : given ≡ None → Appends a b (flat_map part all)
+  yielded_all is =
+      let whole = YieldsList-end road yielded now so_far given next is step in
+      written_all part all _ a b (drop_all (length yielded) all (omega (arith, whole.1))) h
 
 -- Spellings and what follows them.
 

@@ -11,3 +11,4 @@ pub mod PrintedParts
 pub mod Reading
 pub mod SoundStates
 pub mod StatementText
+pub mod WeighedEntries

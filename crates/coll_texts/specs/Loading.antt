@@ -1,5 +1,5 @@
 -- A table text handed in line by line: what is stored of the lines before, and what one more line makes of it.
-use Rattle.std.specs.Prelude.{◌≡◌, ℕ, Bool, true, false, if◌then◌else◌, List, [], ◌∷◌, ◌++◌, Option, Some, None, Result, Ok, Err}
+use Rattle.std.specs.Prelude.{◌≡◌, ℕ, Bool, true, false, if◌then◌else◌, List, [], ◌∷◌, ◌++◌, Option, Some, None, is_some, Result, Ok, Err}
 use Rattle.coll_devices.specs.PhysicalLines.{lines_of}
 use Rattle.coll_lex.specs.EarlyEnds.{ends_at}
 use Rattle.coll_lex.specs.LogicalLines.{LexerState, OpenLine, first_state, number_of, fed, outside}
@@ -16,7 +16,7 @@ use Rattle.coll_nodes.specs.declared.entries.Entry.{Entry}
 use Rattle.coll_nodes.specs.Table.{Collation, Section}
 use Rattle.coll_nodes.specs.Entries.{entry_of}
 use Rattle.coll_texts.specs.BuilderStates.{Numbered, BuilderState, state_of, table_of, second_name, own_order}
-use Rattle.coll_texts.specs.BuilderStates.{with_own_weights, line_fault, at_line, is_end, levels_of, rules_given}
+use Rattle.coll_texts.specs.BuilderStates.{cause_after, with_own_weights, line_fault, at_line, is_end, levels_of, rules_given}
 use Rattle.coll_texts.specs.LoadFaults.{early_fault}
 use Rattle.coll_texts.specs.Reading.{reads}
 use Rattle.coll_texts.specs.declared.load_faults.LoadFault.{LoadFault}
@@ -68,6 +68,11 @@ state_with d number (line.Order order) = with_entry d number (entry_of (levels_o
 -- what the lines say with a numbered one behind them
 abbrev pub state_after : BuilderState → Numbered → BuilderState
 state_after d n = state_with d n.number n.line
+
+-- what the lines say behind one that is refused: what they said before it; where the weights refuse the line that ends the category, these
+-- stand by own names
+abbrev pub state_refused : BuilderState → Numbered → BuilderState
+state_refused d n = if is_some (cause_after d n.line) then d else state_after d n
 
 -- what is stored: where the lexer stands, whether the category has begun, and has ended, what its lines say, with the weights by
 -- own names once it has ended, and the first fault

@@ -12,6 +12,7 @@
 //! - `canonical_texts`: the whole text, and the law that a printed table is read back;
 //! - `exported_texts`: the text that `localedef` takes, and the same law of it (`ExportedText`, `ExportedParts`);
 //! - `statement_texts`: the lines of a statement, as a delta file has them (`StatementText`);
+//! - `weighed_entries`: an entry with all its weights written out, for a person (`WeighedEntries`);
 //! - `pieces`: lines that are written piece by piece, here and in the crates above (`Pieces`).
 //!
 //! What a whole text says is defined here as well, for all who speak of it (`Loading`, `Reading`).
@@ -27,11 +28,14 @@ mod spelled_entries;
 mod spelled_lines;
 mod statement_texts;
 mod table_builder;
+mod weighed_entries;
 
 pub use canonical_texts::{printed_tables_are_read_back, write_table};
 pub use exported_texts::{exported_tables_are_read_back, write_exported};
 pub use load_faults::{LoadCause, LoadFault};
 pub use pieces::{Piece, write_number, write_pieces};
+pub use spelled_entries::write_id;
 pub use spelled_lines::write_text;
 pub use statement_texts::write_statement;
 pub use table_builder::TableBuilder;
+pub use weighed_entries::write_weighed;

@@ -137,8 +137,8 @@ fn write_string<W: Sink>(out: &mut W, ids: &[Id]) -> Result<(), WriteStop>
     write_bytes(out, b"\"")
 }
 
-// Writes identifiers one behind another.
-fn write_ids<W: Sink>(out: &mut W, ids: &[Id]) -> Result<(), WriteStop>
+/// Writes identifiers one behind another.
+pub(crate) fn write_ids<W: Sink>(out: &mut W, ids: &[Id]) -> Result<(), WriteStop>
     ensures { Writes (W.taken out.old) (W.taken out.new) (W.failed out.old) (W.failed out.new) (flat_map id_bytes ids.now) result }
 {
     for id in ids {
@@ -152,7 +152,7 @@ fn write_ids<W: Sink>(out: &mut W, ids: &[Id]) -> Result<(), WriteStop>
 /// Writes an identifier in its canonical spelling: a character by its code point, a name between `<` and `>`, or `UNDEFINED`.
 ///
 /// Where it stops, the device has taken a prefix of this.
-pub(crate) fn write_id<W: Sink>(out: &mut W, id: &Id) -> Result<(), WriteStop>
+pub fn write_id<W: Sink>(out: &mut W, id: &Id) -> Result<(), WriteStop>
     ensures { Writes (W.taken out.old) (W.taken out.new) (W.failed out.old) (W.failed out.new) (id_bytes id.now) result }
 {
     match id {

@@ -2,7 +2,7 @@
 //!
 //! A `TableBuilder` keeps of the lines accepted so far what the next one is judged by (`BuilderState` of
 //! `specs/BuilderStates.antt`): whether an order is open, the rules, and a table that grows, with the number of the line of each
-//! entry. Each method judges one kind of line, as `cause_after` does. After a refusal the builder is given up. What may stand
+//! entry. Each method judges one kind of line, as `cause_after` does; one that is refused leaves the builder as it was. What may stand
 //! where is changed in `specs/BuilderStates.antt` first.
 
 ghost use Rattle.std.specs.Prelude.{◌≡◌, ◌≢◌, ℕ, List, true, false, not, is_some, unwrap_or, [], length, nat_le};
@@ -104,7 +104,7 @@ impl TableBuilder {
     ghost use Rattle.coll_texts.specs.BuilderStates.{cause_after, weights_fault, entries_fault, declaration_cause, section_cause};
     ghost use Rattle.coll_texts.specs.BuilderStates.{section_cause_if, late_cause, order_cause, rules_differ, weight_cause, ids_cause};
     ghost use Rattle.coll_nodes.specs.Walks.{entries_visited};
-    ghost use Rattle.coll_texts.specs.Loading.{state_after, state_with, with_declaration, with_section, with_section_if, with_entry};
+    ghost use Rattle.coll_texts.specs.Loading.{state_after, state_refused, state_with, with_declaration, with_section, with_section_if, with_entry};
 
     /// A builder before the first line. What a text names is looked up under these keys.
     pub fn new(alloc: Global, keys: HashKeys) -> Result<TableBuilder, AllocError>
@@ -122,6 +122,9 @@ impl TableBuilder {
     }
 
     /// Judges one more line, which has this number, and keeps what it says. The answer tells whether it ends the category.
+    ///
+    /// A line that is refused leaves the builder as it was, unless it would end the category and the weights refuse it: then these stand by
+    /// own names.
     #[tactic(auto, unfolding(crate::specs::BuilderStates::line_fault, crate::specs::Loading::state_with))]
     pub fn take(&mut self, number: u32, line: TableLine) -> Result<bool, LoadFault>
         requires proper { IsProperTableLine line }
@@ -132,6 +135,9 @@ impl TableBuilder {
         ensures err { IfErr result (λ fault. fault.cause ≢ OutOfMemory → line_fault self.old (record { number = number; line = line })
             ≡ Some fault) }
         ensures memory { IfErr result (λ fault. fault.cause ≡ OutOfMemory → fault.line ≡ number) }
+        ensures kept { OnErr result (is_end line ≡ false → self.new ≡ self.old) }
+        ensures refused { IfErr result (λ fault. fault.cause ≢ OutOfMemory
+            → self.new ≡ state_refused self.old (record { number = number; line = line })) }
     {
         let ends = ends_category(&line);
         match self.keep(number, line) {
@@ -176,6 +182,7 @@ impl TableBuilder {
         ensures ok { OnOk result (cause_after self.old line ≡ None) }
         ensures after { OnOk result (self.new ≡ state_with self.old number line) }
         ensures err { IfErr result (λ cause. cause ≢ OutOfMemory → cause_after self.old line ≡ Some cause) }
+        ensures kept { OnErr result (self.new ≡ self.old) }
     {
         match line {
             TableLine::Symbol(name) => self.declare_symbol(name),
@@ -197,6 +204,7 @@ impl TableBuilder {
         ensures after { OnOk result (self.new ≡ with_declaration self.old (declaration.Symbol name)) }
         ensures err { IfErr result (λ cause. cause ≢ OutOfMemory → declaration_cause self.old.declared (declaration.Symbol name)
             ≡ Some cause) }
+        ensures kept { OnErr result (self.new ≡ self.old) }
     {
         if self.builder.declared_len() >= MOST_DECLARATIONS {
             return Err(self.full_cause(&name));
@@ -226,6 +234,7 @@ impl TableBuilder {
         ensures after { OnOk result (self.new ≡ with_declaration self.old (declaration.Element name text)) }
         ensures err { IfErr result (λ cause. cause ≢ OutOfMemory → declaration_cause self.old.declared (declaration.Element name text)
             ≡ Some cause) }
+        ensures kept { OnErr result (self.new ≡ self.old) }
     {
         if self.builder.declares(&name) {
             return Err(LoadCause::DeclaredTwice);
@@ -243,6 +252,7 @@ impl TableBuilder {
         ensures after { OnOk result (self.new ≡ with_declaration self.old (second_name self.old.declared name symbol)) }
         ensures err { IfErr result (λ cause. cause ≢ OutOfMemory
             → declaration_cause self.old.declared (second_name self.old.declared name symbol) ≡ Some cause) }
+        ensures kept { OnErr result (self.new ≡ self.old) }
     {
         if self.builder.declares(&name) {
             return Err(LoadCause::DeclaredTwice);
@@ -283,6 +293,7 @@ impl TableBuilder {
         ensures ok { OnOk result (declaration_cause self.old.declared new ≡ None) }
         ensures after { OnOk result (self.new ≡ with_declaration self.old new) }
         ensures err { IfErr result (λ cause. cause ≢ OutOfMemory → declaration_cause self.old.declared new ≡ Some cause) }
+        ensures kept { OnErr result (self.new ≡ self.old) }
     {
         if self.builder.declared_len() >= MOST_DECLARATIONS {
             return Err(LoadCause::Full);
@@ -302,6 +313,7 @@ impl TableBuilder {
           sections = with_section_if self.old.sections section;
         }) }
         ensures err { IfErr result (λ cause. cause ≢ OutOfMemory → cause_after self.old (OrderStart section rules) ≡ Some cause) }
+        ensures kept { OnErr result (self.new ≡ self.old) }
     {
         if self.rules_differ(&rules) {
             return Err(LoadCause::RulesDiffer);
@@ -337,6 +349,7 @@ impl TableBuilder {
         ensures ok { OnOk result (section_cause_if self.old name ≡ None) }
         ensures after { OnOk result (self.new ≡ record self.old { sections = with_section_if self.old.sections name }) }
         ensures err { IfErr result (λ cause. cause ≢ OutOfMemory → section_cause_if self.old name ≡ Some cause) }
+        ensures kept { OnErr result (self.new ≡ self.old) }
     {
         match name {
             Some(name) => self.begin(name),
@@ -350,6 +363,7 @@ impl TableBuilder {
         ensures ok { OnOk result (section_cause self.old name ≡ None) }
         ensures after { OnOk result (self.new ≡ record self.old { sections = with_section self.old.sections name }) }
         ensures err { IfErr result (λ cause. cause ≢ OutOfMemory → section_cause self.old name ≡ Some cause) }
+        ensures kept { OnErr result (self.new ≡ self.old) }
     {
         if let Some(cause) = self.section_cause(&name) {
             return Err(cause);
@@ -376,6 +390,7 @@ impl TableBuilder {
         ensures ok { OnOk result (cause_after self.old OrderEnd ≡ None) }
         ensures after { OnOk result (self.new ≡ record self.old { order_open = false }) }
         ensures err { IfErr result (λ cause. cause_after self.old OrderEnd ≡ Some cause) }
+        ensures kept { OnErr result (self.new ≡ self.old) }
     {
         if !self.order_open {
             return Err(LoadCause::OutsideOrder);
@@ -390,6 +405,7 @@ impl TableBuilder {
         ensures ok { OnOk result (cause_after self.old (Section name) ≡ None) }
         ensures after { OnOk result (self.new ≡ record self.old { sections = with_section self.old.sections name }) }
         ensures err { IfErr result (λ cause. cause ≢ OutOfMemory → cause_after self.old (Section name) ≡ Some cause) }
+        ensures kept { OnErr result (self.new ≡ self.old) }
     {
         if !self.order_open {
             return Err(LoadCause::OutsideOrder);
@@ -405,6 +421,7 @@ impl TableBuilder {
         ensures after { OnOk result (self.new ≡ with_own_weights self.old) }
         ensures err { IfErr result (λ cause. cause ≢ OutOfMemory → cause_after self.old EndCategory ≡ Some cause) }
         ensures memory { IfErr result (λ cause. cause ≡ OutOfMemory → list_any is_equivalence self.old.declared ≡ true) }
+        ensures kept { OnErr result (self.new ≡ self.old) }
     {
         if self.order_open {
             return Err(LoadCause::OutsideOrder);
@@ -423,6 +440,7 @@ impl TableBuilder {
         ensures after { OnOk result (self.new
             ≡ with_entry self.old number (entry_of (levels_of self.old.rules) self.old.declared (own_order self.old.declared line))) }
         ensures err { IfErr result (λ cause. cause ≢ OutOfMemory → order_cause self.old (own_order self.old.declared line) ≡ Some cause) }
+        ensures kept { OnErr result (self.new ≡ self.old) }
     {
         let mut guess = self.guess;
         let answer = self.place_behind(number, line, &mut guess);
@@ -442,6 +460,7 @@ impl TableBuilder {
         ensures after { OnOk result (self.new
             ≡ with_entry self.old number (entry_of (levels_of self.old.rules) self.old.declared (own_order self.old.declared line))) }
         ensures err { IfErr result (λ cause. cause ≢ OutOfMemory → order_cause self.old (own_order self.old.declared line) ≡ Some cause) }
+        ensures kept { OnErr result (self.new ≡ self.old) }
     {
         let (line, symbol) = self.own_order(line, guess)?;
         if let Some(cause) = self.order_cause(&line, symbol) {
@@ -578,6 +597,8 @@ impl TableBuilder {
         requires { is_placed_in self.old.sections entry.id ≡ false → MayBePut self.old entry }
         ensures free { IfOk result (λ put. put ≡ not (is_placed_in self.old.sections entry.id)) }
         ensures ok { IfOk result (λ put. put ≡ true → self.new ≡ with_entry self.old number entry) }
+        ensures taken { IfOk result (λ put. put ≡ false → self.new ≡ self.old) }
+        ensures kept { OnErr result (self.new ≡ self.old) }
     {
         self.numbers.reserve(1)?;
         if !self.builder.place_last(entry)? {
