@@ -16,11 +16,11 @@ use Rattle.coll_requests.specs.declared.delta_faults.DeltaCause.TheVariants as c
 use Rattle.coll_requests.specs.declared.delta_faults.DeltaFault.{DeltaFault}
 use Rattle.coll_requests.specs.declared.request_faults.RequestFault.{RequestFault}
 use Rattle.coll_requests.specs.declared.request_faults.RequestFault.TheVariants as request
-use Rattle.coll_bench.specs.Faults.{fault_number, fault_of, delta_fault_of}
+use Rattle.coll_faults.specs.Faults.{fault_number, fault_of, delta_fault_of}
 use Rattle.coll_bench.specs.BatchOutcome.{delta_fault_in}
 use Rattle.coll_bench.specs.BatchReading.{FailsAs}
 use Rattle.coll_bench.specs.BatchRuns.{Ending, Starved, Refused, ending_of_number, ending_of}
-use Rattle.coll_bench.specs.declared.faults.RunFault.{RunFault}
+use Rattle.coll_faults.specs.declared.faults.RunFault.{RunFault}
 
 -- lack of memory, or not
 abbrev pub kind_of : Bool → Ending

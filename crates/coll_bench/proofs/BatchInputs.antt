@@ -4,11 +4,11 @@ use Rattle.std.proofs.Common.{drop, set, length, Option, Some, Result, Ok, Err, 
 use Rattle.std.specs.Prelude.{slice_get, ◌==◌}
 use Rattle.coll_devices.specs.Devices.{raised}
 use Rattle.coll_nodes.specs.Table.{Collation}
-use Rattle.coll_bench.specs.Faults.{fault_number}
+use Rattle.coll_faults.specs.Faults.{fault_number}
 use Rattle.coll_bench.specs.BatchOutcome.{unless_faulty, after_delta, after_deltas}
 use Rattle.coll_bench.specs.BatchReading.{DeltaFails, CountsDelta, DeltasFail, CountsDeltas}
 use Rattle.coll_bench.specs.BatchRuns.{Ending, ReadFailed, WriteFailed, Starved, Refused, raised_at, DeltaStopsWithin, DeltasStopWithin, DeltaStarves, DeltasStarve}
-use Rattle.coll_bench.specs.declared.faults.RunFault.{RunFault}
+use Rattle.coll_faults.specs.declared.faults.RunFault.{RunFault}
 use Rattle.coll_bench.proofs.Members.{got-map, set-same, split_got, take_got, length-take_got}
 
 after_by : (r : Result Collation RunFault) (n k : ℕ) (xs ys : List (List ℕ))

@@ -27,7 +27,7 @@ use Rattle.coll_requests.proofs.DeltaSteps.{LeadsOn, IsFaultBehind, Judged, from
 use Rattle.coll_bench.specs.BatchOutcome.{Decided, delta_fault_in, unless_faulty, judged_at, rewritten, by_ending, by_statements, decision, answer_at_end}
 use Rattle.coll_bench.specs.BatchReading.{Taken, unless_stored, by_step, line_taken}
 use Rattle.coll_bench.specs.BatchRuns.{DecidesNothing}
-use Rattle.coll_bench.specs.declared.faults.RunFault.{RunFault}
+use Rattle.coll_faults.specs.declared.faults.RunFault.{RunFault}
 
 module _ (input : ℕ) where
   -- Statements one behind another.

@@ -21,7 +21,7 @@ use Rattle.coll_bench.specs.BatchOutcome.{Decision, Decided, delta_fault_in, unl
 use Rattle.coll_bench.specs.BatchReading.{Taken, DeltaFails, ReadsDelta, FailsAs, IsNumberOf, IsFaultNumber, LeadsOver, unless_stored, by_step, stopped_in, line_taken}
 use Rattle.coll_bench.specs.BatchRuns.{Ending, ReadFailed, WriteFailed, Starved, Refused, ending_of, DecidesNothing, IsLineOfStatement, DeltaStarvesWithin}
 use Rattle.coll_table.specs.Loads.{IsLineWithin}
-use Rattle.coll_bench.specs.declared.faults.RunFault.{RunFault}
+use Rattle.coll_faults.specs.declared.faults.RunFault.{RunFault}
 use Rattle.coll_bench.proofs.DeltaDecisions.{Leads, LineDecides, line_decides, long_line, ends_here, reader_ends, undecided_here, given_here, line_states}
 use Rattle.coll_table.proofs.LineNumbers.{IsOpenWithin, next_within, none_open}
 use Rattle.coll_bench.proofs.DeltaNumbers.{opens_after}

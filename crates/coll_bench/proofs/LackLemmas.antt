@@ -18,7 +18,7 @@ use Rattle.coll_requests.specs.Taking.{stop_at, line_requests, line_block}
 use Rattle.coll_bench.specs.Runs.{starved_output, output, last_line, last_of}
 use Rattle.coll_bench.specs.Laws.{ShowsLack, LackShows, LackShowsLast}
 use Rattle.coll_bench.specs.Underway.{written_from}
-use Rattle.coll_bench.specs.Faults.{fault_of}
+use Rattle.coll_faults.specs.Faults.{fault_of}
 use Rattle.coll_requests.specs.declared.request_faults.RequestFault.{RequestFault}
 use Rattle.coll_requests.specs.declared.request_faults.RequestFault.TheVariants as fault
 use Rattle.coll_requests.specs.declared.session_lines.Command.{Command}

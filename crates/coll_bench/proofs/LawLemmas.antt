@@ -6,7 +6,7 @@ use Rattle.coll_history.specs.Withdrawal.{withdrawn}
 use Rattle.coll_history.specs.declared.history_faults.BenchFault.{BenchFault}
 use Rattle.coll_bench.specs.Laws.{RefusedChangesNothing}
 use Rattle.coll_bench.specs.Replies.{counted_line, count_reply, refused_line, reply, starved_line, history_or, history_after, may_starve, command_reply, history_after_command}
-use Rattle.coll_bench.specs.declared.faults.Fault.{Fault}
+use Rattle.coll_faults.specs.declared.faults.Fault.{Fault}
 use Rattle.coll_requests.specs.declared.session_lines.Command.{Command}
 use Rattle.coll_requests.specs.declared.session_lines.Command.TheVariants as command
 use Rattle.coll_requests.specs.declared.requests.Request.{Request}

@@ -8,7 +8,7 @@ use Rattle.coll_requests.specs.declared.delta_files.StatementAt.{StatementAt}
 use Rattle.coll_bench.specs.BatchOutcome.{delta_fault_in, unless_faulty, rewritten}
 use Rattle.coll_bench.specs.BatchReading.{FailsAs, by_step, unless_stored, line_taken}
 use Rattle.coll_bench.specs.BatchRuns.{Ending, ReadFailed, WriteFailed, Starved, Refused, ending_of}
-use Rattle.coll_bench.specs.declared.faults.RunFault.{RunFault}
+use Rattle.coll_faults.specs.declared.faults.RunFault.{RunFault}
 use Rattle.coll_bench.proofs.BatchFaults.{delta_fails}
 
 module _ (input : ℕ) (table : Collation) (s : DeltaState) (line : List ℕ) (given : List StatementAt) (after : DeltaState) (step : delta_line s line ≡ Ok (given, after)) where

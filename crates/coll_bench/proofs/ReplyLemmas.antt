@@ -19,14 +19,14 @@ use Rattle.coll_key.specs.TextOrder.{order_of}
 use Rattle.coll_key.specs.WrittenKey.{written_key}
 use Rattle.coll_key.specs.declared.key_faults.KeyFault.{KeyFault}
 use Rattle.coll_key.specs.declared.key_faults.KeyFault.TheVariants as key_fault
-use Rattle.coll_bench.specs.Faults.{fault_of}
+use Rattle.coll_faults.specs.Faults.{fault_of}
 use Rattle.coll_history.specs.Histories.{History, SessionValue, table_now, judged, numbered, RefusesStatement}
 use Rattle.coll_history.specs.Withdrawal.{is_numbered, withdrawn}
 use Rattle.coll_bench.specs.Replies.{counted_line, refused_line, starved_line, still_needed_line, too_long_line, order_word, count_reply, outcome_line, history_or, command_reply}
 use Rattle.coll_bench.specs.Replies.{history_after_command, reply, history_after, reply_if, history_after_if, key_line, order_line, history_line, history_lines}
 use Rattle.coll_history.specs.declared.history_faults.BenchFault.{BenchFault}
 use Rattle.coll_history.specs.declared.history_faults.BenchFault.TheVariants as bench
-use Rattle.coll_bench.specs.declared.faults.Fault.TheVariants as fault
+use Rattle.coll_faults.specs.declared.faults.Fault.TheVariants as fault
 use Rattle.coll_requests.specs.declared.session_lines.Command.{Command}
 use Rattle.coll_requests.specs.declared.session_lines.Command.TheVariants as command
 use Rattle.coll_requests.specs.declared.request_faults.RequestFault.{RequestFault}

@@ -23,8 +23,8 @@ use Rattle.coll_bench.specs.BatchWriting.{Outputs, IsOfOutput, starved_key}
 use Rattle.coll_bench.specs.Reports.{failed_write}
 use Rattle.coll_bench.specs.Serving.{ReadsNone}
 use Rattle.coll_bench.specs.declared.batches.Batch.{Batch}
-use Rattle.coll_bench.specs.declared.faults.Fault.{Fault}
-use Rattle.coll_bench.specs.declared.faults.RunFault.{RunFault}
+use Rattle.coll_faults.specs.declared.faults.Fault.{Fault}
+use Rattle.coll_faults.specs.declared.faults.RunFault.{RunFault}
 
 -- The table.
 

@@ -9,7 +9,7 @@ use Rattle.coll_lex.specs.declared.faults.LexFault.{LexFault}
 use Rattle.coll_lex.specs.declared.faults.LexFault.TheVariants as lex
 use Rattle.coll_lex.proofs.LineFaults.{fed-not_dangling}
 use Rattle.coll_history.specs.Histories.{History}
-use Rattle.coll_bench.specs.Faults.{fault_of}
+use Rattle.coll_faults.specs.Faults.{fault_of}
 use Rattle.coll_lex.specs.Faults.{ends_text}
 use Rattle.coll_requests.specs.SessionLines.{opening_of, fault_parsed, parsed}
 use Rattle.coll_requests.specs.Parsing.{parsed_by, parsed_in, parsed_at}

@@ -16,7 +16,7 @@ use Rattle.coll_requests.specs.Taking.{stop_at, line_requests, line_block}
 use Rattle.coll_bench.specs.Serving.{IsAtStart, Served, ReadsNone, history_after_all, replies_to, line_replies}
 use Rattle.coll_bench.specs.Runs.{last_line, CountsReads}
 use Rattle.coll_bench.specs.Underway.{written_from, IsCut, IsCutThere, IsUnderway, Underway}
-use Rattle.coll_bench.specs.declared.faults.RunFault.{RunFault}
+use Rattle.coll_faults.specs.declared.faults.RunFault.{RunFault}
 use Rattle.coll_requests.specs.declared.open_blocks.OpenBlock.{OpenBlock}
 use Rattle.coll_bench.specs.declared.serving.RunState.{RunState}
 use Rattle.coll_bench.proofs.ServingLemmas.{counts_none}

@@ -17,7 +17,7 @@ use Rattle.coll_lex.specs.declared.faults.LexFault.{LexFault}
 use Rattle.coll_lex.specs.declared.faults.LexFault.TheVariants as lex
 use Rattle.coll_lex.proofs.LineEnds.{fed-count, fed-room}
 use Rattle.coll_lex.proofs.LineFaults.{fed-full}
-use Rattle.coll_bench.specs.Faults.{fault_number, fault_of}
+use Rattle.coll_faults.specs.Faults.{fault_number, fault_of}
 use Rattle.coll_history.specs.Histories.{History, SessionValue}
 use Rattle.coll_requests.specs.SessionLines.{opening_of, tokens_parsed, fault_parsed}
 use Rattle.coll_requests.proofs.LineStops.{tokens_go_on}
@@ -27,9 +27,9 @@ use Rattle.coll_requests.specs.OpenBlocks.{kept_dropped_faults, kept_last_faults
 use Rattle.coll_bench.specs.Replies.{refused_line, refused_lines, reply, history_after, reply_if, history_after_if}
 use Rattle.coll_requests.specs.Taking.{stop_at, requests_or_last, line_requests, TakesPhysical}
 use Rattle.coll_bench.specs.Serving.{replies_to, history_after_all, Served, EndsSession, EndsWith, EndsAtLine, ReadsNone, CountsStop, read_failed, write_failed, line_replies}
-use Rattle.coll_bench.specs.declared.faults.Fault.TheVariants as faults
+use Rattle.coll_faults.specs.declared.faults.Fault.TheVariants as faults
 use Rattle.coll_requests.specs.declared.request_faults.RequestFault.TheVariants as request
-use Rattle.coll_bench.specs.declared.faults.RunFault.{RunFault}
+use Rattle.coll_faults.specs.declared.faults.RunFault.{RunFault}
 use Rattle.coll_requests.specs.declared.open_blocks.OpenBlock.{OpenBlock}
 use Rattle.coll_requests.specs.declared.session_lines.Opening.{Opening}
 use Rattle.coll_requests.specs.declared.session_lines.ParsedLine.{ParsedLine}

@@ -20,13 +20,13 @@ use Rattle.coll_key.specs.SortKey.{key_of}
 use Rattle.coll_key.specs.TextOrder.{order_of}
 use Rattle.coll_key.specs.WrittenKey.{written_key}
 use Rattle.coll_key.specs.declared.key_faults.KeyFault.TheVariants as key_fault
-use Rattle.coll_bench.specs.Faults.{delta_fault_of}
+use Rattle.coll_faults.specs.Faults.{delta_fault_of}
 use Rattle.coll_bench.specs.Replies.{checked_line, order_word}
 use Rattle.coll_bench.specs.declared.batches.Batch.{Batch}
 use Rattle.coll_bench.specs.declared.batches.Batch.TheVariants as batch
-use Rattle.coll_bench.specs.declared.faults.Fault.{Fault}
-use Rattle.coll_bench.specs.declared.faults.Fault.TheVariants as fault
-use Rattle.coll_bench.specs.declared.faults.RunFault.{RunFault}
+use Rattle.coll_faults.specs.declared.faults.Fault.{Fault}
+use Rattle.coll_faults.specs.declared.faults.Fault.TheVariants as fault
+use Rattle.coll_faults.specs.declared.faults.RunFault.{RunFault}
 
 -- a fault of an input, by its number, at a line of it
 abbrev pub fault_in : (input line : ℕ) → Fault → RunFault

@@ -10,13 +10,13 @@ use Rattle.coll_requests.specs.DeltaReading.{DeltaState, Step, delta_line}
 use Rattle.coll_lex.specs.LogicalLines.{number_of}
 use Rattle.coll_requests.specs.declared.delta_faults.DeltaFault.{DeltaFault}
 use Rattle.coll_requests.specs.declared.delta_files.StatementAt.{StatementAt}
-use Rattle.coll_bench.specs.Faults.{fault_number}
+use Rattle.coll_faults.specs.Faults.{fault_number}
 use Rattle.coll_bench.specs.BatchOutcome.{fault_in, delta_fault_in, unless_faulty, rewritten, after_delta, after_deltas, after_inputs}
 use Rattle.coll_bench.specs.BatchRuns.{Ending, ReadFailed, WriteFailed, Starved, Refused, ending_of, DeltaStopsWithin, DeltasStopWithin}
 use Rattle.coll_bench.specs.BatchRuns.{InputsStopWithin, DeltaStarves, DeltasStarve, InputsStarve, BatchRuns, raised_at}
 use Rattle.coll_bench.specs.declared.batches.Batch.{Batch}
-use Rattle.coll_bench.specs.declared.faults.Fault.TheVariants as fault
-use Rattle.coll_bench.specs.declared.faults.RunFault.{RunFault}
+use Rattle.coll_faults.specs.declared.faults.Fault.TheVariants as fault
+use Rattle.coll_faults.specs.declared.faults.RunFault.{RunFault}
 
 -- what a line is taken as that was handed in: the table rewritten by the statement that it completes, if it completes one, and what
 -- is stored of the file then; or a fault

@@ -9,10 +9,10 @@ use Rattle.coll_texts.specs.declared.load_faults.LoadCause.TheVariants as load
 use Rattle.coll_texts.specs.Reading.{reads}
 use Rattle.coll_requests.specs.DeltaFiles.{delta_outcome}
 use Rattle.coll_requests.specs.declared.delta_files.StatementAt.{StatementAt}
-use Rattle.coll_bench.specs.Faults.{fault_number}
+use Rattle.coll_faults.specs.Faults.{fault_number}
 use Rattle.coll_bench.specs.BatchOutcome.{Decision, Decided, Undecided, decision, after_deltas, batch_outcome}
 use Rattle.coll_bench.specs.declared.batches.Batch.{Batch}
-use Rattle.coll_bench.specs.declared.faults.RunFault.{RunFault}
+use Rattle.coll_faults.specs.declared.faults.RunFault.{RunFault}
 
 -- what kind of fault ended a run: a read that failed, a write that failed, lack of memory, or something that an input or a text
 -- says

@@ -5,9 +5,9 @@ use Rattle.coll_devices.specs.Devices.{raised, AppendsPrefix}
 use Rattle.coll_devices.specs.declared.stops.WriteStop.{WriteStop}
 use Rattle.coll_devices.specs.declared.stops.WriteStop.TheVariants as write
 use Rattle.coll_key.specs.declared.key_faults.KeyFault.TheVariants as key
-use Rattle.coll_bench.specs.Faults.{fault_number}
-use Rattle.coll_bench.specs.declared.faults.Fault.{Fault}
-use Rattle.coll_bench.specs.declared.faults.Fault.TheVariants as fault
+use Rattle.coll_faults.specs.Faults.{fault_number}
+use Rattle.coll_faults.specs.declared.faults.Fault.{Fault}
+use Rattle.coll_faults.specs.declared.faults.Fault.TheVariants as fault
 
 -- lack of memory for ranks or a key
 abbrev pub starved_key : Fault

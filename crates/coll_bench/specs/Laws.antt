@@ -5,7 +5,7 @@ use Rattle.coll_nodes.specs.Table.{Collation}
 use Rattle.coll_history.specs.Histories.{History, begun}
 use Rattle.coll_requests.specs.declared.requests.Request.{Request}
 use Rattle.coll_bench.specs.Replies.{refused_line, starved_line, reply_if, history_after_if}
-use Rattle.coll_bench.specs.declared.faults.Fault.{Fault}
+use Rattle.coll_faults.specs.declared.faults.Fault.{Fault}
 use Rattle.coll_bench.specs.Runs.{starved_output, output, last_of}
 
 -- a request whose reply is a refusal, lack of memory included, leaves the history

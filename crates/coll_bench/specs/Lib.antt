@@ -2,7 +2,6 @@ pub mod BatchOutcome
 pub mod BatchReading
 pub mod BatchRuns
 pub mod BatchWriting
-pub mod Faults
 pub mod Laws
 pub mod Listing
 pub mod Ranked

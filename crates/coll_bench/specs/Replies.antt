@@ -20,12 +20,12 @@ use Rattle.coll_history.specs.Histories.{History, table_now, judged, taken_back,
 use Rattle.coll_history.specs.Withdrawal.{is_numbered, withdrawn}
 use Rattle.coll_table.specs.Refusals.{refusal_number, refusal_name}
 use Rattle.coll_table.specs.declared.refusals.Refusal.{Refusal}
-use Rattle.coll_bench.specs.Faults.{fault_number, fault_name, fault_of}
+use Rattle.coll_faults.specs.Faults.{fault_number, fault_name, fault_of}
 use Rattle.coll_nodes.specs.declared.entries.Entry.{Entry}
 use Rattle.coll_history.specs.declared.history_faults.BenchFault.{BenchFault}
 use Rattle.coll_history.specs.declared.history_faults.BenchFault.TheVariants as bench
-use Rattle.coll_bench.specs.declared.faults.Fault.{Fault}
-use Rattle.coll_bench.specs.declared.faults.Fault.TheVariants as fault
+use Rattle.coll_faults.specs.declared.faults.Fault.{Fault}
+use Rattle.coll_faults.specs.declared.faults.Fault.TheVariants as fault
 use Rattle.coll_requests.specs.declared.session_lines.Command.{Command}
 use Rattle.coll_requests.specs.declared.session_lines.Command.TheVariants as command
 use Rattle.coll_requests.specs.declared.requests.Request.{Request}

@@ -13,12 +13,12 @@ use Rattle.coll_nodes.specs.Table.{Collation}
 use Rattle.coll_history.specs.Histories.{History, begun}
 use Rattle.coll_lex.specs.Faults.{ends_text}
 use Rattle.coll_requests.specs.SessionLines.{parsed}
-use Rattle.coll_bench.specs.Faults.{fault_number}
+use Rattle.coll_faults.specs.Faults.{fault_number}
 use Rattle.coll_requests.specs.Requests.{requests}
 use Rattle.coll_bench.specs.Replies.{answers}
-use Rattle.coll_bench.specs.declared.faults.Fault.{Fault}
-use Rattle.coll_bench.specs.declared.faults.Fault.TheVariants as fault
-use Rattle.coll_bench.specs.declared.faults.RunFault.{RunFault}
+use Rattle.coll_faults.specs.declared.faults.Fault.{Fault}
+use Rattle.coll_faults.specs.declared.faults.Fault.TheVariants as fault
+use Rattle.coll_faults.specs.declared.faults.RunFault.{RunFault}
 
 -- what is written for a session text behind a history, where memory was refused to these lines and these requests; the test
 -- says whether the text's end is seen

@@ -12,12 +12,12 @@ use Rattle.coll_devices.specs.declared.stops.WriteStop.TheVariants as write
 use Rattle.coll_nodes.specs.Table.{Collation}
 use Rattle.coll_history.specs.Histories.{History, SessionValue, begun}
 use Rattle.coll_requests.specs.Parsing.{parsed_at}
-use Rattle.coll_bench.specs.Faults.{fault_number}
+use Rattle.coll_faults.specs.Faults.{fault_number}
 use Rattle.coll_requests.specs.Taking.{TakesPhysical, line_block, line_requests, stop_at}
 use Rattle.coll_bench.specs.Replies.{reply_if, history_after_if}
-use Rattle.coll_bench.specs.declared.faults.Fault.{Fault}
-use Rattle.coll_bench.specs.declared.faults.Fault.TheVariants as faults
-use Rattle.coll_bench.specs.declared.faults.RunFault.{RunFault}
+use Rattle.coll_faults.specs.declared.faults.Fault.{Fault}
+use Rattle.coll_faults.specs.declared.faults.Fault.TheVariants as faults
+use Rattle.coll_faults.specs.declared.faults.RunFault.{RunFault}
 use Rattle.coll_requests.specs.declared.open_blocks.OpenBlock.{OpenBlock}
 use Rattle.coll_requests.specs.declared.requests.RequestAt.{RequestAt}
 use Rattle.coll_bench.specs.declared.serving.RunState.{RunState}

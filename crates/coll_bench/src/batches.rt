@@ -17,8 +17,8 @@ mod inputs;
 mod output;
 mod taking;
 
-use crate::faults::{Fault, RunFault};
 use coll_devices::{Sink, Source};
+use coll_faults::{Fault, RunFault};
 use coll_key::{KeyFault, MOST_TEXT_CHARACTERS};
 use coll_lex::{ListBuf, TextBuf};
 use coll_lookups::HashKeys;

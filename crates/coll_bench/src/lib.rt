@@ -4,7 +4,6 @@
 //! judges it, and `replies` answers it. A way through the crate, each file with its definitions in `specs/`:
 //!
 //! - `kept_ranks` and `ranked_sessions`: ranks and places, kept while the table stays, and a history with them (`Ranked`);
-//! - `faults`: all faults of a session and a batch, and the one that ends a run (`Faults`);
 //! - `replies`: the reply to each request (`Replies`, and of a table's listing `Listing`), with `history_reply` for `:history`
 //!   and `texts` for `:key` and `:compare`; a batch writes its counts, keys and orders by the same functions;
 //! - `serving` for one line and `runs` for a text: a session (`Serving`, `Underway`, `Runs`); who serves more than its lines takes them
@@ -17,7 +16,6 @@
 #![tactic(auto)]
 
 mod batches;
-mod faults;
 mod kept_ranks;
 mod laws;
 mod ranked_sessions;
@@ -27,8 +25,8 @@ mod runs;
 mod serving;
 
 pub use batches::{Batch, TakesStatements, read_delta, read_inputs, run_batch, run_batch_keyed};
+pub use coll_faults::{Fault, RunFault};
 pub use coll_history::{BenchFault, Session};
-pub use faults::{Fault, RunFault};
 pub use laws::{lack_of_memory_shows, refused_lines_change_nothing};
 pub use replies::{write_counted, write_history_line, write_told_line};
 pub use reports::{exit_status, write_fault};

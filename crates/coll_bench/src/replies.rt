@@ -11,16 +11,16 @@ ghost use Rattle.coll_nodes.specs.TableLayout.{collation};
 ghost use Rattle.coll_requests.specs.ProperLines.{IsProperRequest};
 ghost use Rattle.coll_nodes.specs.WalkItems.{visited_by};
 ghost use Rattle.coll_bench.specs.Listing.{visited_line, rank_after};
-ghost use Rattle.coll_bench.specs.declared.faults.Fault.TheVariants.{Bench};
+ghost use Rattle.coll_faults.specs.declared.faults.Fault.TheVariants.{Bench};
 ghost use Rattle.coll_bench.specs.Replies.{checked_line, counted_line, told_line, refused_line, still_needed_line, section_line};
 ghost use Rattle.coll_bench.specs.Replies.{listed_line, listed_sections, listing, outcome_line, reply_if, history_after_if};
 
 mod history_reply;
 mod texts;
 
-use crate::faults::Fault;
 use crate::ranked_sessions::RankedSession;
 use coll_devices::{Sink, WriteStop};
+use coll_faults::Fault;
 use coll_history::BenchFault;
 use coll_nodes::{Entry, WalkItem};
 use coll_requests::{Command, Request};

@@ -6,8 +6,8 @@ ghost use Rattle.std.specs.Prelude.{◌≡◌, ◌<◌, ◌++◌, length, map, s
 ghost use Rattle.coll_devices.specs.Devices.{CountsErr, Sends, Writes};
 ghost use Rattle.coll_bench.specs.Reports.{fault_line, behind_name, exit_status as stated_status, failed_write};
 
-use crate::faults::{Fault, RunFault};
 use coll_devices::{Sink, WriteStop};
+use coll_faults::{Fault, RunFault};
 use coll_texts::{Piece, write_pieces};
 
 /// Writes the line of a fault, `FILE:LINE: NUMBER NAME`, where FILE is the name of its input, and LINE is 0 where it comes from no

@@ -12,9 +12,9 @@ ghost use Rattle.coll_history.specs.Histories.{History};
 ghost use Rattle.coll_bench.specs.Serving.{IsAtStart, EndsSession, CountsWrites, IsFlushedAfter, never_ran};
 ghost use Rattle.coll_bench.specs.Runs.{Runs, RunsFrom, CountsReads};
 
-use crate::faults::{Fault, RunFault};
 use crate::serving::RunState;
 use coll_devices::{LineReader, Sink, Source};
+use coll_faults::{Fault, RunFault};
 use coll_lex::LexFault;
 use coll_table::Table;
 use std::alloc::Global;

@@ -22,10 +22,10 @@ ghost use Rattle.coll_requests.specs.Requests.{dangling as dangling_faults};
 ghost use Rattle.coll_bench.specs.Serving.{EndsSession, EndsWith, FinishesWith, IsCutOff, CountsEnd, CountsWrites, CountsStop};
 ghost use Rattle.coll_bench.specs.Serving.{IsFlushedAt, IsFlushedAfter, ReadsNone, write_failed as failed_write, too_long};
 
-use crate::faults::{Fault, RunFault};
 use crate::ranked_sessions::RankedSession;
 use crate::replies::{answer, refuse};
 use coll_devices::{ReadStop, Sink, WriteStop};
+use coll_faults::{Fault, RunFault};
 use coll_history::{BenchFault, Session};
 use coll_lex::LexFault;
 use coll_lookups::EntryNumbers;

@@ -15,7 +15,7 @@ use Rattle.coll_texts.specs.CanonicalText.{spelled_rule}
 use Rattle.coll_elements.specs.Elements.{elements_of}
 use Rattle.coll_key.specs.TextOrder.{order_of}
 use Rattle.coll_bench.specs.Serving.{write_failed}
-use Rattle.coll_bench.specs.declared.faults.RunFault.{RunFault}
+use Rattle.coll_faults.specs.declared.faults.RunFault.{RunFault}
 use Rattle.coll_explanations.specs.Explaining.{WritesWhole}
 use Rattle.coll_explanations.specs.Explanations.{apart_at, difference_words, level_line, level_lines, unless_apart, explanation, explanation_of}
 use Rattle.coll_explanations.specs.ToldLists.{Apart}

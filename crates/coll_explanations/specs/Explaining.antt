@@ -6,7 +6,7 @@ use Rattle.coll_nodes.specs.Table.{Collation}
 use Rattle.coll_bench.specs.BatchOutcome.{fault_in, is_any_too_long, text_too_long}
 use Rattle.coll_bench.specs.BatchWriting.{starved_key}
 use Rattle.coll_bench.specs.Serving.{write_failed}
-use Rattle.coll_bench.specs.declared.faults.RunFault.{RunFault}
+use Rattle.coll_faults.specs.declared.faults.RunFault.{RunFault}
 use Rattle.coll_explanations.specs.Explanations.{explanation}
 
 -- lack of memory, which comes from no line

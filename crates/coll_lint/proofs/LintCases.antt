@@ -8,9 +8,9 @@ use Rattle.coll_texts.specs.Reading.{reads}
 use Rattle.coll_bench.specs.BatchOutcome.{unless_faulty, table_or_fault, after_delta, after_deltas, after_inputs}
 use Rattle.coll_bench.specs.BatchReading.{DeltaFails, InputsFail, WritesNone}
 use Rattle.coll_bench.specs.BatchRuns.{Ending, ReadFailed, WriteFailed, Starved, Refused, ending_of}
-use Rattle.coll_bench.specs.Faults.{fault_number}
+use Rattle.coll_faults.specs.Faults.{fault_number}
 use Rattle.coll_bench.specs.Serving.{write_failed}
-use Rattle.coll_bench.specs.declared.faults.RunFault.{RunFault}
+use Rattle.coll_faults.specs.declared.faults.RunFault.{RunFault}
 use Rattle.coll_lint.specs.LintLines.{lint_text}
 use Rattle.coll_lint.specs.Lints.{BeginsWith, IsLintOf, LintRuns, LintsTexts, TellsFaults, is_at_fault, is_of_no_text}
 use Rattle.coll_surveys.specs.ToldFaults.{AreOnce}

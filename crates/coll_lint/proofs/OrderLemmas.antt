@@ -8,8 +8,8 @@ use Rattle.std.proofs.lemmas.List.Elements.{All-head, All-tail}
 use Rattle.std.proofs.lemmas.List.Sorted.{IsPermutation-map, IsPermutation-remove}
 use Rattle.std.proofs.lemmas.Map.Keys.{IsDistinct-cons, IsDistinct-head, IsDistinct-tail, IsDistinct-IsPermutation}
 use Rattle.std.proofs.lemmas.Bool.{eqb-true, false≢true}
-use Rattle.coll_bench.specs.Faults.{fault_number}
-use Rattle.coll_bench.specs.declared.faults.RunFault.{RunFault}
+use Rattle.coll_faults.specs.Faults.{fault_number}
+use Rattle.coll_faults.specs.declared.faults.RunFault.{RunFault}
 use Rattle.coll_surveys.specs.ToldFaults.{AreOnce, are_same, is_of_id, is_told_by_id, number_told, same_subject}
 use Rattle.coll_lint.specs.Lints.{is_answered}
 use Rattle.coll_lint.specs.Orders.{AreRearranged, bare_fault, bare_subject}

@@ -5,9 +5,9 @@ use Rattle.coll_devices.specs.Devices.{raised}
 use Rattle.coll_devices.specs.declared.stops.ReadStop.TheVariants as read
 use Rattle.coll_bench.specs.BatchOutcome.{fault_in}
 use Rattle.coll_bench.specs.BatchReading.{starved_in}
-use Rattle.coll_bench.specs.Faults.{fault_number}
-use Rattle.coll_bench.specs.declared.faults.Fault.TheVariants as fault
-use Rattle.coll_bench.specs.declared.faults.RunFault.{RunFault}
+use Rattle.coll_faults.specs.Faults.{fault_number}
+use Rattle.coll_faults.specs.declared.faults.Fault.TheVariants as fault
+use Rattle.coll_faults.specs.declared.faults.RunFault.{RunFault}
 
 -- most bytes of a text that is kept
 abbrev pub most_text_bytes : ℕ

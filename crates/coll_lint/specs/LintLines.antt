@@ -4,7 +4,7 @@ use Rattle.std.specs.List.{flat_map}
 use Rattle.coll_devices.specs.PhysicalLines.{line_feed}
 use Rattle.coll_syntax.specs.declared.identifiers.Id.{Id}
 use Rattle.coll_texts.specs.PrintedParts.{id_bytes, symbol_bytes}
-use Rattle.coll_bench.specs.Faults.{fault_number, fault_name}
+use Rattle.coll_faults.specs.Faults.{fault_number, fault_name}
 use Rattle.coll_bench.specs.Reports.{named}
 use Rattle.coll_surveys.specs.declared.findings.About.{About}
 use Rattle.coll_surveys.specs.declared.findings.About.TheVariants as about

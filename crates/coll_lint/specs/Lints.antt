@@ -5,9 +5,9 @@ use Rattle.std.specs.List.{remove}
 use Rattle.coll_nodes.specs.Table.{Collation}
 use Rattle.coll_nodes.specs.TableLayout.{TableValue, collation}
 use Rattle.coll_bench.specs.BatchOutcome.{after_deltas, after_inputs}
-use Rattle.coll_bench.specs.Faults.{fault_number}
+use Rattle.coll_faults.specs.Faults.{fault_number}
 use Rattle.coll_bench.specs.Serving.{write_failed}
-use Rattle.coll_bench.specs.declared.faults.RunFault.{RunFault}
+use Rattle.coll_faults.specs.declared.faults.RunFault.{RunFault}
 use Rattle.coll_lint.specs.LintLines.{lint_text}
 use Rattle.coll_surveys.specs.ToldFaults.{AreOnce, number_told}
 use Rattle.coll_surveys.specs.declared.findings.FoundFault.{FoundFault}

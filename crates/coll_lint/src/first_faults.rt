@@ -9,7 +9,7 @@ ghost use Rattle.coll_surveys.specs.ToldFaults.{AreOnce};
 ghost use Rattle.coll_surveys.specs.declared.findings.About.TheVariants as about;
 ghost use Rattle.coll_surveys.specs.declared.findings.FoundFault.{FoundFault};
 
-use coll_bench::RunFault;
+use coll_faults::RunFault;
 use coll_surveys::{About, FoundFault};
 use std::alloc::AllocError;
 
@@ -25,7 +25,7 @@ pub(crate) fn put_first(first: RunFault, faults: &mut Vec<FoundFault>) -> Result
 }
 
 /// What is told of a fault that a batch answers. It is taken out of the faults of a survey where it is among them.
-pub(crate) fn found_as(first: RunFault, faults: &mut Vec<FoundFault>) -> FoundFault
+pub fn found_as(first: RunFault, faults: &mut Vec<FoundFault>) -> FoundFault
     ensures fault { result.fault ≡ first }
     ensures others { AreOthers faults.old.items faults.new.items }
     ensures once { AreOnce faults.old.items → AreOnce (result ∷ faults.new.items) }

@@ -5,7 +5,7 @@ ghost use Rattle.std.specs.Io.KnownBytes.{IsAtEnd};
 ghost use Rattle.coll_bench.specs.BatchReading.{starved_in};
 ghost use Rattle.coll_lint.specs.KeptTexts.{CountsReads, IsTextOf, KeepsPart, StopsReading, most_text_bytes, read_failed as failed_read};
 
-use coll_bench::{Fault, RunFault};
+use coll_faults::{Fault, RunFault};
 use coll_lex::{LexFault, ReadStop, Source};
 use std::alloc::{AllocError, Global};
 

@@ -17,8 +17,8 @@ use Rattle.coll_key.specs.TextOrder.{list_order, first_difference, level_lists, 
 use Rattle.coll_key.proofs.KeyOrder.{keys_in_order}
 use Rattle.coll_key.proofs.LevelLemmas.{level_lists_by_elements}
 use Rattle.coll_words.specs.FirstKeys.{begins_plainly, first_list, first_key, packed_first_key}
-use Rattle.coll_words.specs.PackedKeys.{packed_key, packed_number}
-use Rattle.coll_words.proofs.PackedOrder.{packed_in_order}
+use Rattle.coll_word_lists.specs.PackedKeys.{packed_key, packed_number}
+use Rattle.coll_word_lists.proofs.PackedOrder.{packed_in_order}
 
 -- What is made.
 

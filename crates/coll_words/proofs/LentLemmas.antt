@@ -12,7 +12,7 @@ use Rattle.std.proofs.lemmas.List.Sorted.{All-permutation}
 use Rattle.coll_nodes.specs.Table.{Collation}
 use Rattle.coll_key.specs.TextOrder.{list_order}
 use Rattle.coll_words.specs.FirstKeys.{AreFirstKeyed, packed_first_key}
-use Rattle.coll_words.specs.KeyedWords.{KeyedWord, texts_of}
+use Rattle.coll_word_lists.specs.KeyedWords.{KeyedWord, texts_of}
 use Rattle.coll_words.proofs.KeyLeadLemmas.{leads_all}
 use Rattle.coll_words.specs.LentWords.{AreDigits, AreLedFirst, AreLent, HasLead, IsLedFirst, IsLedKey, IsLent, without_lead}
 

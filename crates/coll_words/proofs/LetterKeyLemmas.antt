@@ -11,18 +11,18 @@ use Rattle.coll_ranks.specs.LevelWeights.{row_numbers}
 use Rattle.coll_ranks.specs.RankLists.{WeightsValue}
 use Rattle.coll_ranks.specs.WeightNumbers.{numbers_at}
 use Rattle.coll_ranks.specs.declared.text_elements.ElementRow.{ElementRow}
-use Rattle.coll_words.specs.ElementMarks.{AreMarks, StandsAlone}
+use Rattle.coll_letters.specs.ElementMarks.{AreMarks, StandsAlone}
 use Rattle.coll_words.specs.FirstKeys.{begins_plainly, packed_first_key}
 use Rattle.coll_words.specs.LetterKeys.{AreApartIn, BeginsWithKept, IsLetterKey, ServeTexts}
-use Rattle.coll_words.specs.LetterWeights.{IsRowOf}
-use Rattle.coll_words.specs.PackedKeys.{packed_key}
-use Rattle.coll_words.specs.declared.element_marks.ElementMarks.{ElementMarks}
+use Rattle.coll_letters.specs.LetterWeights.{IsRowOf}
+use Rattle.coll_word_lists.specs.PackedKeys.{packed_key}
+use Rattle.coll_letters.specs.declared.element_marks.ElementMarks.{ElementMarks}
 use Rattle.coll_words.specs.declared.letter_keys.FirstKept.{FirstKept}
 use Rattle.coll_words.specs.declared.letter_keys.LetterKey.{LetterKey}
 use Rattle.coll_words.specs.declared.text_letters.TextLetters.{TextLetters}
 use Rattle.coll_words.proofs.FirstLemmas.{first_of_elements}
-use Rattle.coll_words.proofs.LetterLemmas.{alone_first}
-use Rattle.coll_words.proofs.LetterOrders.{all_alone}
+use Rattle.coll_letters.proofs.LetterLemmas.{alone_first}
+use Rattle.coll_letters.proofs.MarkLemmas.{all_alone}
 
 -- characters that are apart serve
 pub serve_texts : (table : Collation) (marks : ElementMarks) (letters : TextLetters) → AreMarks table marks → AreApartIn marks letters → ServeTexts table letters

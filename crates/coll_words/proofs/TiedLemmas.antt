@@ -19,9 +19,9 @@ use Rattle.coll_key.specs.SortKey.{key_of}
 use Rattle.coll_key.specs.TextOrder.{list_order, order_of}
 use Rattle.coll_key.proofs.KeyOrder.{keys_in_order, All-first, All-others}
 use Rattle.coll_words.specs.FirstKeys.{packed_first_key}
-use Rattle.coll_words.specs.KeyedWords.{KeyedWord, AreSortedByKeys, has_less_key, texts_of}
+use Rattle.coll_word_lists.specs.KeyedWords.{KeyedWord, AreSortedByKeys, has_less_key, texts_of}
 use Rattle.coll_words.specs.LentWords.{AreDigits, IsLedFirst}
-use Rattle.coll_words.specs.SortedWords.{AreSorted}
+use Rattle.coll_word_lists.specs.SortedWords.{AreSorted}
 use Rattle.coll_words.specs.TiedWords.{AreAlike, EndsRun}
 use Rattle.coll_words.proofs.FirstLemmas.{first_decides}
 use Rattle.coll_words.proofs.KeyLeadLemmas.{lead_less}

@@ -5,8 +5,8 @@ use Rattle.coll_syntax.specs.declared.rules.Rule.{Rule}
 use Rattle.coll_nodes.specs.Table.{Collation}
 use Rattle.coll_key.specs.SortKey.{key_of}
 use Rattle.coll_key.specs.TextOrder.{level_lists}
-use Rattle.coll_words.specs.KeyedWords.{KeyedWord, AreKeyedBy}
-use Rattle.coll_words.specs.PackedKeys.{packed_key}
+use Rattle.coll_word_lists.specs.KeyedWords.{KeyedWord, AreKeyedBy}
+use Rattle.coll_word_lists.specs.PackedKeys.{packed_key}
 
 -- the first level is looked at from the front, and its numbers stand without positions
 abbrev pub begins_plainly : List Rule → Bool

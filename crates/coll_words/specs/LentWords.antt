@@ -3,7 +3,7 @@ use Rattle.std.specs.Prelude.{◌≡◌, ℕ, ◌<◌, List, ◌∷◌, All, len
 use Rattle.coll_nodes.specs.Table.{Collation}
 use Rattle.coll_words.specs.FirstKeys.{packed_first_key}
 use Rattle.coll_words.specs.KeyLeads.{AreRising, LeadsTo}
-use Rattle.coll_words.specs.KeyedWords.{KeyedWord}
+use Rattle.coll_word_lists.specs.KeyedWords.{KeyedWord}
 
 -- the lead of a key stands before it
 pub record IsLedKey (numbers : List ℕ) (base room : ℕ) (key led : List ℕ) : Type 0 where

@@ -12,11 +12,11 @@ use Rattle.coll_ranks.specs.WeightNumbers.{numbers_at}
 use Rattle.coll_ranks.specs.declared.level_weights.LevelWeights.{LevelWeights}
 use Rattle.coll_ranks.specs.declared.text_elements.ElementRow.{ElementRow}
 use Rattle.coll_key.specs.KeyLimits.{is_too_long}
-use Rattle.coll_words.specs.ElementMarks.{AreAllApart, AreAlone, StandsAlone}
+use Rattle.coll_letters.specs.ElementMarks.{AreAllApart, AreAlone, StandsAlone}
 use Rattle.coll_words.specs.FirstKeys.{begins_plainly}
-use Rattle.coll_words.specs.LetterWeights.{AreLetterWeights, IsRowOf}
-use Rattle.coll_words.specs.PackedKeys.{packed_key}
-use Rattle.coll_words.specs.declared.element_marks.ElementMarks.{ElementMarks}
+use Rattle.coll_letters.specs.LetterWeights.{AreLetterWeights, IsRowOf}
+use Rattle.coll_word_lists.specs.PackedKeys.{packed_key}
+use Rattle.coll_letters.specs.declared.element_marks.ElementMarks.{ElementMarks}
 use Rattle.coll_words.specs.declared.letter_keys.FirstKept.{FirstKept}
 use Rattle.coll_words.specs.declared.letter_keys.LetterKey.{LetterKey}
 use Rattle.coll_words.specs.declared.letter_keys.LetterKeys.{LetterKeys}

@@ -1,7 +1,7 @@
 -- Words whose texts and keys stand one behind another.
 use Rattle.std.specs.Prelude.{◌≤◌, ℕ, List, All, length, map, chars, slice_range}
 use Rattle.std.specs.Str.{IsUtf8}
-use Rattle.coll_words.specs.KeyedWords.{KeyedWord}
+use Rattle.coll_word_lists.specs.KeyedWords.{KeyedWord}
 use Rattle.coll_words.specs.declared.stored_words.WordPlace.{WordPlace}
 
 -- the bytes of a text

@@ -1,7 +1,7 @@
 -- Words that are sorted by their keys, cut into runs.
 use Rattle.std.specs.Prelude.{◌≡◌, ◌⊎◌, ℕ, ◌-◌, true, List, length, slice_index_or}
 use Rattle.std.specs.List.{AllAdjacentBelow}
-use Rattle.coll_words.specs.KeyedWords.{KeyedWord, has_less_key}
+use Rattle.coll_word_lists.specs.KeyedWords.{KeyedWord, has_less_key}
 
 -- a run ends before this place: no word stands there, or one with a greater key than the word before it
 abbrev pub EndsRun : List KeyedWord → (place : ℕ) → Type 0

@@ -3,6 +3,8 @@
 //! Most words differ at the first level, so only this part of their keys is made of all, and packed as it is found: along the elements
 //! of a text, with no list of them and none of whole numbers between. It is made so where the level is looked at from the front and
 //! has no positions, as mostly; else the whole key serves.
+//!
+//! The plain form are whole keys; both end in lines that are sorted (`AreSorted`).
 
 ghost use Rattle.std.specs.Prelude.{◌≡◌, ◌≢◌, ◌≤◌, ◌+◌, ◌++◌, chars, map, true, false, vec_len, vec_capacity, IfOk, IfErr};
 ghost use Rattle.std.specs.List.{flat_map};
@@ -12,13 +14,13 @@ ghost use Rattle.coll_ranks.specs.Ranks.{AreRanksOf, added_to, compiled_numbers,
 ghost use Rattle.coll_key.specs.KeyLimits.{is_too_long};
 ghost use Rattle.coll_key.specs.declared.key_faults.KeyFault.TheVariants.{OutOfMemory};
 ghost use Rattle.coll_words.specs.FirstKeys.{begins_plainly, packed_first_key};
-ghost use Rattle.coll_words.specs.PackedKeys.{packed_key};
+ghost use Rattle.coll_word_lists.specs.PackedKeys.{packed_key};
 
-use crate::packed_keys::{with_packed, with_packed_key, with_room};
 use coll_key::{KeyFault, MOST_TEXT_CHARACTERS, RANK_STEP, Ranks, is_too_long, key};
 use coll_ranks::WeightRanks;
 use coll_syntax::Rule;
 use coll_table::Table;
+use coll_word_lists::{with_packed, with_packed_key, with_room};
 use std::alloc::{AllocError, Global};
 
 /// Puts what a text is sorted by first behind other keys, packed.

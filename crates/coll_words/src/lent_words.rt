@@ -6,8 +6,8 @@
 ghost use Rattle.std.specs.Prelude.{◌≡◌, ◌∷◌, chars, OnOk};
 ghost use Rattle.std.specs.Str.{IsUtf8};
 ghost use Rattle.coll_devices.specs.Devices.{Writes};
-ghost use Rattle.coll_words.specs.KeyedWords.{AreSortedByKeys, texts_of};
-ghost use Rattle.coll_words.specs.Words.{written_word, written_words};
+ghost use Rattle.coll_word_lists.specs.KeyedWords.{AreSortedByKeys, texts_of};
+ghost use Rattle.coll_word_lists.specs.Words.{written_word, written_words};
 
 use coll_devices::{Sink, WriteStop};
 use coll_texts::{Piece, write_pieces};
@@ -29,7 +29,7 @@ pub(crate) struct LentWord<'a> {
 impl<'a> Model for LentWord<'a> {
     ghost use Rattle.std.specs.Prelude.{◌∷◌, chars};
     ghost use Rattle.std.specs.Str.{IsUtf8};
-    ghost use Rattle.coll_words.specs.KeyedWords.{KeyedWord};
+    ghost use Rattle.coll_word_lists.specs.KeyedWords.{KeyedWord};
 
     ghost Value = { KeyedWord };
 

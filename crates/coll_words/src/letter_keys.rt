@@ -3,6 +3,8 @@
 //! What words are sorted by first is made along their texts: of each character its number at the first level is kept as it is packed,
 //! if it has a single one and no element begins with it, so that it takes one look-up. Else the row of its weights serves. What is left
 //! of a text at a character without a row, or where an element may begin, goes by the places of the table's entries.
+//!
+//! The plain form is `first_keys`, by ranks; both give the same (`Give`, `packed_first_key`).
 
 ghost use Rattle.std.specs.Prelude.{◌≡◌, ◌<◌, ◌≤◌, ◌+◌, ◌++◌, ◌∷◌, [], All, chars, false, true, length};
 ghost use Rattle.std.specs.Prelude.{vec_len, vec_capacity, IfOk, IfSome};
@@ -17,19 +19,18 @@ ghost use Rattle.coll_ranks.specs.WeightNumbers.{numbers_at};
 ghost use Rattle.coll_syntax.specs.declared.identifiers.Id.TheVariants.{Char};
 ghost use Rattle.coll_words.specs.FirstKeys.{begins_plainly, packed_first_key};
 ghost use Rattle.coll_words.specs.LetterKeys.{AreLetterKeys, BeginsWithKept, HasLevel, IsLetterKey, ServeTexts};
-ghost use Rattle.coll_words.specs.LetterWeights.{AreLetterWeights, IsLetterRow};
-ghost use Rattle.coll_words.specs.PackedKeys.{packed_key};
-ghost use Rattle.coll_words.specs.ElementMarks.{AreMarks};
+ghost use Rattle.coll_letters.specs.LetterWeights.{AreLetterWeights, IsLetterRow};
+ghost use Rattle.coll_word_lists.specs.PackedKeys.{packed_key};
+ghost use Rattle.coll_letters.specs.ElementMarks.{AreMarks};
 
-use crate::element_marks::ElementMarks;
 use crate::first_keys::with_weight;
-use crate::letter_weights::{LetterRow, LetterWeights, number_of, split_first_char};
-use crate::packed_keys::{short_number, with_room, with_short};
 use crate::text_letters::TextLetters;
 use coll_elements::CodePoints;
 use coll_key::{EntryNumbers, KeyFault, MOST_TEXT_CHARACTERS, key_of_text};
+use coll_letters::{ElementMarks, LetterRow, LetterWeights, number_of, split_first_char};
 use coll_ranks::{ElementRow, LevelWeights, TextWeights, WeightRanks};
 use coll_table::Table;
+use coll_word_lists::{short_number, with_room, with_short};
 use std::alloc::{AllocError, Global};
 
 /// A character, and what it weighs.

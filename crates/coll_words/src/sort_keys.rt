@@ -10,14 +10,13 @@ ghost use Rattle.coll_words.specs.FirstKeys.{packed_first_key};
 ghost use Rattle.coll_words.specs.LetterKeys.{AreLetterKeys};
 ghost use Rattle.coll_words.specs.SortKeys.{Give};
 
-use crate::element_marks::ElementMarks;
 use crate::first_keys::{begins_plainly, with_first_key};
 use crate::letter_keys::LetterKeys;
-use crate::stored_texts::StoredTexts;
 use crate::text_letters::TextLetters;
-use crate::word_orders::most_letters;
 use coll_key::{KeyFault, Ranks, is_too_long, key};
+use coll_letters::{ElementMarks, most_letters};
 use coll_table::Table;
+use coll_word_lists::StoredTexts;
 use std::alloc::{AllocError, Global};
 
 /// What gives keys by one table as it stood when it was made.

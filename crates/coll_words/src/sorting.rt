@@ -9,24 +9,22 @@ ghost use Rattle.coll_devices.specs.Devices.{Sends};
 ghost use Rattle.coll_nodes.specs.TableLayout.{collation};
 ghost use Rattle.coll_bench.specs.Serving.{CountsWrites, ReadsNone, write_failed};
 ghost use Rattle.coll_words.specs.FirstKeys.{AreFirstKeyed};
-ghost use Rattle.coll_words.specs.KeyedWords.{texts_of};
+ghost use Rattle.coll_word_lists.specs.KeyedWords.{texts_of};
 ghost use Rattle.coll_words.specs.SortKeys.{Give};
-ghost use Rattle.coll_words.specs.SortRuns.{SortRuns, WritesSorted};
-ghost use Rattle.coll_words.specs.SortedWords.{AreSorted};
-ghost use Rattle.coll_words.specs.WordReading.{CountsReading};
-ghost use Rattle.coll_words.specs.Words.{written_words};
+ghost use Rattle.coll_word_lists.specs.SortRuns.{SortRuns, WritesSorted};
+ghost use Rattle.coll_word_lists.specs.SortedWords.{AreSorted};
+ghost use Rattle.coll_word_lists.specs.WordReading.{CountsReading};
+ghost use Rattle.coll_word_lists.specs.Words.{written_words};
 
 use crate::lent_words::{LentWord, sort_lent_words, write_lent_words};
-use crate::reading::{fault_at, no_memory};
 use crate::sort_keys::SortKeys;
-use crate::stored_texts::StoredTexts;
 use crate::stored_words::StoredWords;
 use crate::tied_words::sort_ties;
-use crate::word_texts::read_stored_texts;
-use coll_bench::{Fault, RunFault};
 use coll_devices::{Sink, Source, WriteStop};
+use coll_faults::{Fault, RunFault};
 use coll_key::KeyFault;
 use coll_table::Table;
+use coll_word_lists::{StoredTexts, fault_at, no_memory, read_stored_texts};
 use std::alloc::Global;
 
 /// Reads the lines of an input, and writes them in the order of a table, each with a line feed. Lines that compare equal stay in the

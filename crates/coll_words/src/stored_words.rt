@@ -1,24 +1,24 @@
 //! Words with what they are sorted by first, over texts that stay elsewhere.
 //!
-//! A word by itself (`words`) has memory of its own for its key, and for a long text. Here all texts stand one behind another
-//! (`stored_texts`), and so do all keys, and a word is where its own begin and end: so many words ask for hardly more blocks than one,
-//! and take less. A key is what `sort_keys` gives, right where it stays; `lent_words` has the sort.
+//! A word by itself (`Word` of `coll_word_lists`) has memory of its own for its key, and for a long text. Here all texts stand one behind
+//! another (`StoredTexts`), and so do all keys, and a word is where its own begin and end: so many words ask for hardly more blocks than
+//! one, and take less. A key is what `sort_keys` gives, right where it stays; `lent_words` has the sort.
 
 ghost use Rattle.std.specs.Prelude.{◌≡◌, [], IfOk, IfSome};
 ghost use Rattle.coll_nodes.specs.TableLayout.{collation};
 ghost use Rattle.coll_words.specs.FirstKeys.{AreFirstKeyed};
-ghost use Rattle.coll_words.specs.KeyedWords.{texts_of};
+ghost use Rattle.coll_word_lists.specs.KeyedWords.{texts_of};
 ghost use Rattle.coll_words.specs.LentWords.{AreLent, IsLent};
 ghost use Rattle.coll_words.specs.SortKeys.{Give};
-ghost use Rattle.coll_words.specs.StoredTexts.{AreTextPlaces, texts_at};
+ghost use Rattle.coll_word_lists.specs.StoredTexts.{AreTextPlaces, texts_at};
 ghost use Rattle.coll_words.specs.StoredWords.{ArePlaces, IsPlace, word_at, words_at};
 
 use crate::key_leads::LeadDigits;
 use crate::lent_words::LentWord;
 use crate::sort_keys::SortKeys;
-use crate::stored_texts::{StoredTexts, TextPlace, text_of};
 use coll_key::KeyFault;
 use coll_table::Table;
+use coll_word_lists::{StoredTexts, TextPlace, text_of};
 use std::alloc::{AllocError, Global};
 use std::marker::Model;
 
@@ -43,7 +43,7 @@ pub(crate) struct StoredWords<'a> {
 
 impl<'a> Model for StoredWords<'a> {
     ghost use Rattle.std.specs.Prelude.{List};
-    ghost use Rattle.coll_words.specs.KeyedWords.{KeyedWord};
+    ghost use Rattle.coll_word_lists.specs.KeyedWords.{KeyedWord};
     ghost use Rattle.coll_words.specs.LentWords.{AreLent, IsLent};
     ghost use Rattle.coll_words.specs.StoredWords.{ArePlaces, words_at};
 

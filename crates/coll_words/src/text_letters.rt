@@ -6,11 +6,10 @@
 ghost use Rattle.std.specs.Prelude.{◌≡◌, true, IfOk, IfSome};
 ghost use Rattle.coll_words.specs.LetterKeys.{AreApartIn};
 
-use crate::element_marks::ElementMarks;
-use crate::letter_weights::split_first_char;
-use crate::stored_texts::StoredTexts;
 use coll_elements::CodePoints;
 use coll_key::is_too_long;
+use coll_letters::{ElementMarks, split_first_char};
+use coll_word_lists::StoredTexts;
 use std::alloc::{AllocError, Global};
 
 // The mark of a character that was seen, and with which no element begins.

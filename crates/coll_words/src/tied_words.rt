@@ -7,18 +7,17 @@ ghost use Rattle.std.specs.Prelude.{◌≡◌, ◌≢◌, ◌<◌, ◌≤◌, �
 ghost use Rattle.std.specs.List.Sorted.{IsSortedBy};
 ghost use Rattle.std.specs.Str.{IsUtf8};
 ghost use Rattle.coll_nodes.specs.TableLayout.{collation};
-ghost use Rattle.coll_words.specs.KeyedWords.{AreKeyed, AreSortedByKeys, has_less_key, texts_of};
+ghost use Rattle.coll_word_lists.specs.KeyedWords.{AreKeyed, AreSortedByKeys, has_less_key, texts_of};
 ghost use Rattle.coll_words.specs.LentWords.{AreLedFirst};
 ghost use Rattle.coll_words.specs.SortKeys.{Give};
-ghost use Rattle.coll_words.specs.SortedWords.{AreSorted};
+ghost use Rattle.coll_word_lists.specs.SortedWords.{AreSorted};
 ghost use Rattle.coll_words.specs.TiedWords.{AreAlike, EndsRun};
 
 use crate::lent_words::LentWord;
-use crate::packed_keys::packed_key;
 use crate::sort_keys::SortKeys;
-use crate::stored_texts::text_of;
 use coll_key::KeyFault;
 use coll_table::Table;
+use coll_word_lists::{packed_key, text_of};
 use std::alloc::{AllocError, Global};
 use std::marker::Model;
 
@@ -34,7 +33,7 @@ struct TiedWord<'a> {
 impl<'a> Model for TiedWord<'a> {
     ghost use Rattle.std.specs.Prelude.{chars};
     ghost use Rattle.std.specs.Str.{IsUtf8};
-    ghost use Rattle.coll_words.specs.KeyedWords.{KeyedWord};
+    ghost use Rattle.coll_word_lists.specs.KeyedWords.{KeyedWord};
 
     ghost Value = { KeyedWord };
 
@@ -44,7 +43,7 @@ impl<'a> Model for TiedWord<'a> {
 }
 
 impl<'a> TiedWord<'a> {
-    ghost use Rattle.coll_words.specs.KeyedWords.{IsKeyed};
+    ghost use Rattle.coll_word_lists.specs.KeyedWords.{IsKeyed};
 
     // A text with its key by a table, in new memory.
     fn new(

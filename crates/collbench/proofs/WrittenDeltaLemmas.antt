@@ -12,7 +12,7 @@ use Rattle.coll_delta_texts.specs.DeltaText.{delta_text}
 use Rattle.coll_tailorings.specs.Rewriting.{and_then, rewritten}
 use Rattle.coll_bench.specs.BatchOutcome.{after_delta, answer_at_end, by_ending, by_statements, decision, judged_at, unless_faulty}
 use Rattle.coll_bench.specs.BatchOutcome.{rewritten as batch_rewritten}
-use Rattle.coll_bench.specs.declared.faults.RunFault.{RunFault}
+use Rattle.coll_faults.specs.declared.faults.RunFault.{RunFault}
 use Rattle.collbench.specs.WrittenDeltas.{WrittenDeltasAreAccepted}
 
 -- a statement, and then later ones

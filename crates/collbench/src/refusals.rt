@@ -9,9 +9,9 @@ use crate::reasons::told_reason;
 use crate::standard_input::STANDARD_INPUT;
 use coll_bench::{Fault, RunFault, read_inputs};
 use coll_lex::Counted;
-use coll_lint::{
-    RefusedLine, keep_text, refused_alone, refused_at, refused_in_delta, refused_in_table,
-    write_refused,
+use coll_lint::keep_text;
+use coll_refused_lines::{
+    RefusedLine, refused_alone, refused_at, refused_in_delta, refused_in_table, write_refused,
 };
 use coll_sources::SourceFault;
 use coll_table::{HashKeys, LoadCause, Table};

@@ -10,8 +10,8 @@ use crate::progress::{ProgressLine, Step};
 use crate::{Output, read_first, standard_output};
 use coll_bench::{Fault, RunFault};
 use coll_lex::{ReadStop, Sink, WriteStop};
+use coll_reviews::{Progress, review_words};
 use coll_table::{HashKeys, Table};
-use coll_words::{Progress, review_words};
 
 /// Tells what the statements of a delta file do to words: the first of these files has the table, the second the statements, the
 /// third the words.

@@ -14,8 +14,8 @@ ghost use Rattle.coll_bench.specs.BatchReading.{IsFaultNumber, line_taken, starv
 ghost use Rattle.coll_bench.specs.BatchRuns.{ending_of};
 
 use super::taking::TakesStatements;
-use crate::faults::{Fault, RunFault};
 use coll_devices::{LineReader, ReadStop, Source};
+use coll_faults::{Fault, RunFault};
 use coll_lex::LexFault;
 use coll_requests::{DeltaFault, DeltaReader, StatementAt};
 use std::alloc::Global;

@@ -7,8 +7,8 @@ ghost use Rattle.coll_bench.specs.BatchReading.{ReadsInputs, ReadsDeltas, Counts
 ghost use Rattle.coll_bench.specs.BatchRuns.{CountsInputs};
 
 use super::delta_files::read_delta;
-use crate::faults::{Fault, RunFault};
 use coll_devices::Source;
+use coll_faults::{Fault, RunFault};
 use coll_lookups::HashKeys;
 use coll_table::{Table, load_keyed};
 use coll_texts::LoadFault;

@@ -16,9 +16,9 @@ ghost use Rattle.coll_texts.specs.ExportedText.{exported_text};
 ghost use Rattle.coll_bench.specs.Replies.{checked_line, order_word};
 
 use super::Batch;
-use crate::faults::Fault;
 use crate::replies::{write_checked, write_key_ended, write_order};
 use coll_devices::{Sink, WriteStop};
+use coll_faults::Fault;
 use coll_key::{KeyFault, compare, key, write_compiled};
 use coll_lex::TextBuf;
 use coll_ranks::Ranks;

@@ -13,7 +13,7 @@ ghost use Rattle.coll_bench.specs.BatchOutcome.{judged_at};
 ghost use Rattle.coll_bench.specs.BatchReading.{FailsAs};
 ghost use Rattle.coll_bench.specs.BatchRuns.{ending_of};
 
-use crate::faults::{Fault, RunFault};
+use coll_faults::{Fault, RunFault};
 use coll_requests::StatementAt;
 use coll_table::Table;
 

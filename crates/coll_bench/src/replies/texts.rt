@@ -8,9 +8,9 @@ ghost use Rattle.coll_requests.specs.declared.session_lines.Command.TheVariants.
 ghost use Rattle.coll_requests.specs.declared.requests.Request.TheVariants.{Command};
 
 use super::write_refused;
-use crate::faults::Fault;
 use crate::ranked_sessions::RankedSession;
 use coll_devices::{Sink, WriteStop, write_bytes};
+use coll_faults::Fault;
 use coll_key::write_key;
 use coll_lex::TextBuf;
 use coll_syntax::Rule;

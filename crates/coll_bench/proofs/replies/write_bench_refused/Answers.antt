@@ -3,7 +3,7 @@ use Rattle.std.proofs.Common.{List, ℕ, sym, ap, ◌∙◌, subst, rules}
 use Rattle.coll_devices.specs.Devices.{Sends}
 use Rattle.coll_history.specs.declared.history_faults.BenchFault.{BenchFault}
 use Rattle.coll_bench.specs.Replies.{refused_line}
-use Rattle.coll_bench.specs.declared.faults.Fault.TheVariants as fault
+use Rattle.coll_faults.specs.declared.faults.Fault.TheVariants as fault
 use Rattle.coll_bench.proofs.ReplyLemmas.{still_needed}
 use Rattle.coll_bench.proofs.replies.write_bench_refused.Goals as goal
 

@@ -5,7 +5,7 @@ use Rattle.std.specs.Prelude.{◌==◌, if◌then◌else◌}
 use Rattle.coll_devices.specs.Devices.{raised}
 use Rattle.coll_devices.specs.PhysicalLines.{IsInLine}
 use Rattle.coll_devices.specs.LineReading.{ReaderState, Cuts, unread}
-use Rattle.coll_bench.specs.Faults.{fault_number}
+use Rattle.coll_faults.specs.Faults.{fault_number}
 use Rattle.coll_bench.proofs.ServingLemmas.{counts_after}
 use Rattle.coll_bench.proofs.RunSteps.{underway_begun, underway_on, unread_begun, gives_line, gives_end, count_at_end, stops_now, reads_kept}
 use Rattle.coll_bench.proofs.RunExits.{line_ended, cut_off_ended, text_ended}

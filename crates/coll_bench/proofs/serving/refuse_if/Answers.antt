@@ -1,7 +1,7 @@
 use Rattle.std.proofs.Common.{List, ℕ, append-nil, sym, ap, ◌∙◌, subst}
 use Rattle.std.proofs.KnownBytes.{Appends-nil}
 use Rattle.coll_devices.specs.Devices.{Sends}
-use Rattle.coll_bench.specs.Faults.{fault_of}
+use Rattle.coll_faults.specs.Faults.{fault_of}
 use Rattle.coll_bench.specs.Replies.{refused_line, refused_lines}
 use Rattle.coll_bench.proofs.serving.refuse_if.Goals as goal
 

@@ -1,7 +1,7 @@
 use Rattle.std.proofs.Common.{◌++◌}
 use Rattle.coll_devices.proofs.WritingLemmas.{AppendsPrefix-before, Sends-after, Sends-stopped}
 use Rattle.coll_bench.specs.Replies.{refused_line}
-use Rattle.coll_bench.specs.declared.faults.Fault.TheVariants.{Lex}
+use Rattle.coll_faults.specs.declared.faults.Fault.TheVariants.{Lex}
 use Rattle.coll_bench.proofs.serving.write_dropped.Goals as goal
 
 pub returns-in_err-refuse_if-clause-sent : goal.returns-in_err-refuse_if-clause-sent

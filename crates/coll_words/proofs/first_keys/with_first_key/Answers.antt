@@ -2,7 +2,7 @@
 use Rattle.std.proofs.Common.{◌≡◌, ◌∙◌, ◌++◌, ℕ, List, true, chars, sym, ap}
 use Rattle.coll_nodes.specs.TableLayout.{collation}
 use Rattle.coll_words.specs.FirstKeys.{begins_plainly}
-use Rattle.coll_words.specs.PackedKeys.{packed_key}
+use Rattle.coll_word_lists.specs.PackedKeys.{packed_key}
 use Rattle.coll_words.proofs.FirstLemmas.{first_is_plain}
 use Rattle.coll_words.proofs.first_keys.with_first_key.Goals as goal
 

@@ -5,7 +5,7 @@ use denote.Text.{Utf8}
 use denote.Shadow.{shadow}
 use Rattle.std.specs.List.{flat_map}
 use Rattle.coll_ranks.specs.Ranks.{compiled_numbers, elements_by_ranks}
-use Rattle.coll_words.specs.PackedKeys.{packed_key}
+use Rattle.coll_word_lists.specs.PackedKeys.{packed_key}
 use Rattle.coll_words.proofs.first_keys.with_first_level.Given as goal
 
 abbrev pub invariant-elements : goal.invariant-elements

@@ -2,7 +2,7 @@
 use Rattle.std.proofs.Common.{◌≡◌, ◌≤◌, ◌+◌, ◌++◌, length, map}
 use Rattle.std.specs.Prelude.{vec_len, vec_capacity}
 use Rattle.coll_ranks.specs.Ranks.{added_to}
-use Rattle.coll_words.specs.PackedKeys.{packed_key}
+use Rattle.coll_word_lists.specs.PackedKeys.{packed_key}
 use Rattle.coll_words.proofs.first_keys.with_several.Given as goal
 
 abbrev pub invariant-numbers : goal.invariant-numbers

@@ -2,8 +2,8 @@
 use Rattle.std.proofs.Common.{◌≡◌, ◌∙◌, ◌∷◌, [], ◌++◌, ℕ, List, sym, ap, subst}
 use Rattle.std.proofs.lemmas.Str.{encodes-chars}
 use Rattle.coll_devices.specs.Devices.{Writes}
-use Rattle.coll_words.specs.KeyedWords.{KeyedWord}
-use Rattle.coll_words.specs.Words.{written_word}
+use Rattle.coll_word_lists.specs.KeyedWords.{KeyedWord}
+use Rattle.coll_word_lists.specs.Words.{written_word}
 use Rattle.coll_words.proofs.lent_words.write_lent_word.Goals as goal
 
 pub returns : goal.returns

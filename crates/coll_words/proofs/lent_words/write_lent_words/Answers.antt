@@ -4,7 +4,7 @@ use Rattle.std.proofs.lemmas.List.{drop_all}
 use Rattle.std.proofs.Common.{◌+◌, arith, drop, ◌∙◌, sym, subst, rules}
 use Rattle.coll_devices.specs.Devices.{AppendsPrefix}
 use Rattle.coll_texts.proofs.PrintedParts.{left_begins, written_prefix, written_more, written_all}
-use Rattle.coll_words.proofs.SortCases.{line_of, written_texts}
+use Rattle.coll_word_lists.proofs.SortCases.{line_of, written_texts}
 use Rattle.coll_words.proofs.lent_words.write_lent_words.Goals as goal
 
 pub returns-in-Err : goal.returns-in-Err

@@ -1,7 +1,7 @@
 -- What is written and what is left are the whole.
 use Rattle.std.proofs.Common.{◌≡◌, drop}
 use Rattle.coll_texts.proofs.PrintedParts.{HasWritten}
-use Rattle.coll_words.proofs.SortCases.{line_of}
+use Rattle.coll_word_lists.proofs.SortCases.{line_of}
 use Rattle.coll_words.proofs.lent_words.write_lent_words.Given as goal
 
 abbrev pub invariant-loop-word : goal.invariant-loop-word

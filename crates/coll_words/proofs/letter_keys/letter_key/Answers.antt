@@ -3,9 +3,9 @@ use Rattle.std.proofs.Common.{◌≡◌, inl, arith, subst}
 use Rattle.std.specs.Prelude.{slice_index_or}
 use Rattle.coll_nodes.specs.TableLayout.{collation}
 use Rattle.coll_ranks.specs.LevelWeights.{level_numbers}
-use Rattle.coll_words.specs.declared.element_marks.ElementMarks.{ElementMarks}
+use Rattle.coll_letters.specs.declared.element_marks.ElementMarks.{ElementMarks}
 use Rattle.coll_words.proofs.LetterKeyLemmas.{number_packed}
-use Rattle.coll_words.proofs.MarkLemmas.{stands_apart}
+use Rattle.coll_letters.proofs.MarkLemmas.{stands_apart}
 use Rattle.coll_words.proofs.letter_keys.letter_key.Goals as goal
 
 pub returns-then-begin_without : goal.returns-then-begin_without

@@ -3,8 +3,8 @@ use Rattle.std.proofs.Common.{◌∙◌, All, ap, subst, sym}
 use Rattle.coll_nodes.specs.TableLayout.{collation}
 use Rattle.coll_ranks.specs.LevelWeights.{row_numbers}
 use Rattle.coll_ranks.specs.RankLists.{WeightsValue}
-use Rattle.coll_words.specs.LetterWeights.{IsLetterRow}
-use Rattle.coll_words.specs.declared.letter_weights.LetterRow.{LetterRow}
+use Rattle.coll_letters.specs.LetterWeights.{IsLetterRow}
+use Rattle.coll_letters.specs.declared.letter_weights.LetterRow.{LetterRow}
 use Rattle.coll_words.proofs.LetterKeyLemmas.{letters_more}
 use Rattle.coll_words.proofs.letter_keys.letter_keys.Goals as goal
 

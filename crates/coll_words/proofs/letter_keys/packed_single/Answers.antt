@@ -2,8 +2,8 @@
 use Rattle.std.proofs.Common.{◌≡◌, ◌∙◌, ◌*◌, ◌∷◌, [], ap, rules}
 use Rattle.coll_ranks.specs.LevelWeights.{level_ranks}
 use Rattle.coll_ranks.specs.Ranks.{added_to}
-use Rattle.coll_words.specs.PackedKeys.{packed_key}
-use Rattle.coll_words.proofs.NumberLemmas.{single_is}
+use Rattle.coll_word_lists.specs.PackedKeys.{packed_key}
+use Rattle.coll_letters.proofs.NumberLemmas.{single_is}
 use Rattle.coll_words.proofs.letter_keys.packed_single.Goals as goal
 
 pub returns-in-Single : goal.returns-in-Single

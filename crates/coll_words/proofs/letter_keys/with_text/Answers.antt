@@ -11,7 +11,7 @@ use Rattle.coll_ranks.specs.WeightNumbers.{numbers_at}
 use Rattle.coll_ranks.specs.declared.text_elements.TextElement.{TextElement}
 use Rattle.coll_ranks.specs.declared.text_elements.TextElement.TheVariants.{Placed}
 use Rattle.coll_ranks.proofs.LevelRows.{row_of_element}
-use Rattle.coll_words.specs.PackedKeys.{packed_key}
+use Rattle.coll_word_lists.specs.PackedKeys.{packed_key}
 use Rattle.coll_words.proofs.FirstLemmas.{element_packed}
 use Rattle.coll_words.proofs.LetterKeyLemmas.{numbers_by_lists}
 use Rattle.coll_words.proofs.letter_keys.with_text.Goals as goal

@@ -2,7 +2,7 @@
 use Rattle.std.proofs.Common.{◌≡◌, ◌++◌, drop}
 use Rattle.std.specs.List.{flat_map}
 use Rattle.coll_ranks.specs.Ranks.{compiled_numbers}
-use Rattle.coll_words.specs.PackedKeys.{packed_key}
+use Rattle.coll_word_lists.specs.PackedKeys.{packed_key}
 use Rattle.coll_words.proofs.letter_keys.with_text.Given as goal
 
 abbrev pub invariant-loop-element : goal.invariant-loop-element

@@ -1,7 +1,7 @@
 -- The words have these texts.
 use Rattle.std.proofs.Common.{ℕ, List, subst}
 use Rattle.coll_nodes.specs.TableLayout.{collation}
-use Rattle.coll_words.specs.SortRuns.{WritesSorted}
+use Rattle.coll_word_lists.specs.SortRuns.{WritesSorted}
 use Rattle.coll_words.proofs.sorting.sort_by.Goals as goal
 
 pub returns-in-Ok-clause-run : goal.returns-in-Ok-clause-run

@@ -1,6 +1,6 @@
 -- The words are read, and then sorted and written, or there is a fault.
 use Rattle.coll_nodes.specs.TableLayout.{collation}
-use Rattle.coll_words.proofs.SortCases.{unread_runs, written_runs, counts_read}
+use Rattle.coll_word_lists.proofs.SortCases.{unread_runs, written_runs, counts_read}
 use Rattle.coll_words.proofs.sorting.sort_lines.Goals as goal
 
 pub returns-in-Ok-clause-run : goal.returns-in-Ok-clause-run

@@ -3,9 +3,9 @@ use Rattle.std.proofs.Common.{◌∙◌, List, ℕ, length, drop, sym, subst}
 use Rattle.std.proofs.lemmas.List.{length-map, take_at}
 use Rattle.std.proofs.lemmas.List.Sorted.{length_permutation}
 use Rattle.coll_nodes.specs.TableLayout.{collation}
-use Rattle.coll_words.specs.KeyedWords.{KeyedWord, texts_of}
+use Rattle.coll_word_lists.specs.KeyedWords.{KeyedWord, texts_of}
 use Rattle.coll_words.specs.LentWords.{AreLedFirst}
-use Rattle.coll_words.specs.SortedWords.{AreSorted}
+use Rattle.coll_word_lists.specs.SortedWords.{AreSorted}
 use Rattle.coll_words.proofs.LentLemmas.{led_moved, lent_first, lent_texts}
 use Rattle.coll_words.proofs.TiedLemmas.{sorted_through}
 use Rattle.coll_words.proofs.sorting.sorted.Goals as goal

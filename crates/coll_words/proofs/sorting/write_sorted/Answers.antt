@@ -2,9 +2,9 @@
 use Rattle.std.proofs.Common.{List, subst}
 use Rattle.coll_devices.specs.Devices.{Sends}
 use Rattle.coll_nodes.specs.TableLayout.{collation}
-use Rattle.coll_words.specs.KeyedWords.{KeyedWord, texts_of}
-use Rattle.coll_words.specs.Words.{written_words}
-use Rattle.coll_words.proofs.SortCases.{writes}
+use Rattle.coll_word_lists.specs.KeyedWords.{KeyedWord, texts_of}
+use Rattle.coll_word_lists.specs.Words.{written_words}
+use Rattle.coll_word_lists.proofs.SortCases.{writes}
 use Rattle.coll_words.proofs.sorting.write_sorted.Goals as goal
 
 pub returns-in-Ok-clause-run : goal.returns-in-Ok-clause-run

@@ -3,11 +3,11 @@ use Rattle.std.proofs.Common.{◌≡◌, ◌+◌, ◌∙◌, ◌++◌, ◌∷◌
 use Rattle.std.proofs.lemmas.List.{drop_all, drop_more}
 use Rattle.coll_nodes.specs.TableLayout.{collation}
 use Rattle.coll_words.specs.FirstKeys.{packed_first_key}
-use Rattle.coll_words.specs.KeyedWords.{KeyedWord, texts_of}
-use Rattle.coll_words.specs.StoredTexts.{IsTextPlace, text_in, texts_at}
+use Rattle.coll_word_lists.specs.KeyedWords.{KeyedWord, texts_of}
+use Rattle.coll_word_lists.specs.StoredTexts.{IsTextPlace, text_in, texts_at}
 use Rattle.coll_words.specs.StoredWords.{words_at}
-use Rattle.coll_words.specs.declared.stored_texts.TextPlace.{TextPlace}
-use Rattle.coll_words.proofs.StoredLemmas.{keys_more, places_with, texts_more, words_with}
+use Rattle.coll_word_lists.specs.declared.stored_texts.TextPlace.{TextPlace}
+use Rattle.coll_words.proofs.StoredWordLemmas.{keys_more, places_with, texts_more, words_with}
 use Rattle.coll_words.proofs.stored_words.keyed_at.Goals as goal
 
 pub loop-place-preserved : goal.loop-place-preserved

@@ -2,8 +2,8 @@
 use Rattle.std.proofs.Common.{◌≡◌, ◌++◌, drop}
 use Rattle.coll_nodes.specs.TableLayout.{collation}
 use Rattle.coll_words.specs.FirstKeys.{AreFirstKeyed}
-use Rattle.coll_words.specs.KeyedWords.{texts_of}
-use Rattle.coll_words.specs.StoredTexts.{texts_at}
+use Rattle.coll_word_lists.specs.KeyedWords.{texts_of}
+use Rattle.coll_word_lists.specs.StoredTexts.{texts_at}
 use Rattle.coll_words.specs.StoredWords.{ArePlaces, words_at}
 use Rattle.coll_words.proofs.stored_words.keyed_at.Given as goal
 

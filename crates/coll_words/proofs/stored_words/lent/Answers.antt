@@ -1,6 +1,6 @@
 -- The lead 0 is that of no digit.
 use Rattle.std.proofs.Common.{◌≡◌, ◌∷◌, [], chars, slice_range, sym, subst, rules}
-use Rattle.coll_words.specs.KeyedWords.{KeyedWord}
+use Rattle.coll_word_lists.specs.KeyedWords.{KeyedWord}
 use Rattle.coll_words.specs.LentWords.{IsLent}
 use Rattle.coll_words.specs.StoredWords.{text_at, word_at}
 use Rattle.coll_words.proofs.LentLemmas.{led_zero}

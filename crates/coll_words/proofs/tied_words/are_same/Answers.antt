@@ -1,7 +1,7 @@
 -- One word more is the same as the one before it.
 use Rattle.std.proofs.Common.{◌≡◌, ◌∙◌, sym, ap, chars, arith, rules}
 use Rattle.std.proofs.lemmas.List.Sorted.{all_adjacent_more}
-use Rattle.coll_words.specs.KeyedWords.{texts_of}
+use Rattle.coll_word_lists.specs.KeyedWords.{texts_of}
 use Rattle.coll_words.proofs.TiedLemmas.{neighbours_alike}
 use Rattle.coll_words.proofs.tied_words.are_same.Goals as goal
 

@@ -1,7 +1,7 @@
 -- The words so far are the same.
 use Rattle.std.proofs.Common.{◌≡◌, ◌-◌, ◌<◌, length}
 use Rattle.std.specs.List.{AllAdjacentBelow}
-use Rattle.coll_words.specs.KeyedWords.{texts_of}
+use Rattle.coll_word_lists.specs.KeyedWords.{texts_of}
 use Rattle.coll_words.proofs.tied_words.are_same.Given as goal
 
 abbrev pub invariant-words : goal.invariant-words

@@ -3,7 +3,7 @@ use Rattle.std.proofs.Common.{◌∙◌, length, sym, ap}
 use Rattle.std.proofs.lemmas.List.{length-map}
 use Rattle.std.proofs.lemmas.List.Sorted.{length_permutation}
 use Rattle.coll_nodes.specs.TableLayout.{collation}
-use Rattle.coll_words.specs.KeyedWords.{KeyedWord, texts_of}
+use Rattle.coll_word_lists.specs.KeyedWords.{KeyedWord, texts_of}
 use Rattle.coll_words.proofs.TiedLemmas.{alike_sorted}
 use Rattle.coll_words.proofs.tied_words.sort_run.Goals as goal
 

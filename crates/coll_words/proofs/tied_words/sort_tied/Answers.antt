@@ -3,7 +3,7 @@ use Rattle.std.proofs.Common.{ap, rules}
 use Rattle.std.specs.Ordering.{is_lt}
 use Rattle.std.proofs.lemmas.Cmp.{nat_list_cmp_total}
 use Rattle.std.proofs.lemmas.List.Sorted.{answers_always, ranks_by}
-use Rattle.coll_words.specs.KeyedWords.{KeyedWord, has_less_key}
+use Rattle.coll_word_lists.specs.KeyedWords.{KeyedWord, has_less_key}
 use Rattle.coll_words.proofs.tied_words.sort_tied.Goals as goal
 
 pub returns : goal.returns

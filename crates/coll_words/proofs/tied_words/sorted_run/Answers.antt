@@ -1,9 +1,9 @@
 -- Words that are sorted by their keys are sorted by the table.
 use Rattle.std.proofs.Common.{List, ℕ, subst}
 use Rattle.coll_nodes.specs.TableLayout.{collation}
-use Rattle.coll_words.specs.KeyedWords.{texts_of}
-use Rattle.coll_words.specs.SortedWords.{AreSorted}
-use Rattle.coll_words.proofs.SortedLemmas.{sorted_texts}
+use Rattle.coll_word_lists.specs.KeyedWords.{texts_of}
+use Rattle.coll_word_lists.specs.SortedWords.{AreSorted}
+use Rattle.coll_word_lists.proofs.SortedLemmas.{sorted_texts}
 use Rattle.coll_words.proofs.tied_words.sorted_run.Goals as goal
 
 pub returns : goal.returns

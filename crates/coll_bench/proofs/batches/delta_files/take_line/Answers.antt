@@ -3,7 +3,7 @@ use Rattle.std.proofs.Common.{None, inl, inr, ap, subst, sym, ◌∙◌}
 use Rattle.std.specs.Prelude.{option_to_list}
 use Rattle.coll_bench.specs.BatchReading.{FailsAs, line_taken}
 use Rattle.coll_bench.specs.BatchRuns.{ending_of}
-use Rattle.coll_bench.specs.declared.faults.RunFault.{RunFault}
+use Rattle.coll_faults.specs.declared.faults.RunFault.{RunFault}
 use Rattle.coll_bench.proofs.LineTaking.{by_stored, fails_so, stored_fails, line_fails}
 use Rattle.coll_bench.proofs.DeltaNumbers.{stored_number}
 use Rattle.coll_bench.proofs.batches.delta_files.take_line.Goals as goal

@@ -1,12 +1,12 @@
 -- What stands at the place is the character's.
 use Rattle.std.proofs.Common.{All, arith, chars, get_or, sym, subst}
 use Rattle.coll_nodes.specs.TableLayout.{collation}
-use Rattle.coll_words.specs.ElementMarks.{IsApart}
+use Rattle.coll_letters.specs.ElementMarks.{IsApart}
 use Rattle.coll_words.specs.LetterKeys.{IsLetterKey}
-use Rattle.coll_words.specs.declared.element_marks.ElementMarks.{ElementMarks}
+use Rattle.coll_letters.specs.declared.element_marks.ElementMarks.{ElementMarks}
 use Rattle.coll_words.specs.declared.letter_keys.LetterKey.{LetterKey}
 use Rattle.coll_words.proofs.LetterKeyLemmas.{begins_kept, plain_alone}
-use Rattle.coll_words.proofs.MarkLemmas.{stands_apart}
+use Rattle.coll_letters.proofs.MarkLemmas.{stands_apart}
 use Rattle.coll_words.proofs.letter_keys.LetterKeys.first.Goals as goal
 
 pub returns-then-kept-gt0 : goal.returns-then-kept-gt0

@@ -1,7 +1,7 @@
 -- The characters are those that serve.
 use Rattle.std.proofs.Common.{ℕ, List, chars, subst, sym}
 use Rattle.coll_nodes.specs.TableLayout.{collation}
-use Rattle.coll_words.specs.ElementMarks.{AreAlone}
+use Rattle.coll_letters.specs.ElementMarks.{AreAlone}
 use Rattle.coll_words.proofs.LetterKeyLemmas.{plain_level}
 use Rattle.coll_words.proofs.letter_keys.LetterKeys.new.Goals as goal
 

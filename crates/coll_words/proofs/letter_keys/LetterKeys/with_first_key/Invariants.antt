@@ -7,7 +7,7 @@ use Rattle.std.specs.List.{flat_map}
 use Rattle.coll_nodes.specs.TableLayout.{collation}
 use Rattle.coll_elements.specs.Elements.{elements_of}
 use Rattle.coll_ranks.specs.WeightNumbers.{numbers_at}
-use Rattle.coll_words.specs.PackedKeys.{packed_key}
+use Rattle.coll_word_lists.specs.PackedKeys.{packed_key}
 use Rattle.coll_words.proofs.letter_keys.LetterKeys.with_first_key.Given as goal
 
 abbrev pub invariant-letters : goal.invariant-letters

@@ -1,7 +1,7 @@
 -- The characters are looked at, and their number.
 use Rattle.std.proofs.Common.{◌∙◌, ℕ, List, ap, chars, subst, sym}
 use Rattle.coll_key.specs.KeyLimits.{is_too_long}
-use Rattle.coll_words.specs.ElementMarks.{AreAllApart}
+use Rattle.coll_letters.specs.ElementMarks.{AreAllApart}
 use Rattle.coll_words.proofs.text_letters.TextLetters.serve.Goals as goal
 
 pub returns : goal.returns

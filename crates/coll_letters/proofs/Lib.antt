@@ -1,0 +1,5 @@
+pub mod BackNumberLemmas
+pub mod LetterLemmas
+pub mod LevelNumberLemmas
+pub mod MarkLemmas
+pub mod NumberLemmas

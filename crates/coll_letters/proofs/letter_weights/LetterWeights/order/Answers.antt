@@ -1,0 +1,28 @@
+-- The first level that decides is the order, and where none does it is `Equal`.
+use Rattle.std.proofs.Common.{◌∙◌, chars, sym}
+use Rattle.coll_nodes.specs.TableLayout.{collation}
+use Rattle.coll_elements.specs.Elements.{elements_of}
+use Rattle.coll_ranks.specs.WeightNumbers.{numbers_at}
+use Rattle.coll_key.proofs.OrderLemmas.{order_undecided}
+use Rattle.coll_letters.proofs.LetterLemmas.{found_decides, found_goes_on, order_by_levels}
+use Rattle.coll_letters.proofs.letter_weights.LetterWeights.order.Goals as goal
+
+pub loop-level-preserved : goal.loop-level-preserved
+loop-level-preserved c =
+    let table = collation c.args.table.now in
+    found_goes_on (numbers_at table) (elements_of table (chars c.args.text.now)) (elements_of table (chars c.args.other.now)) c.loop-level.level c.rules-rule-items.result.now table.rules _
+    c.in_ok-order.field-0 c.in-Some.order _ c.in-Some.is c.rules-rule-items.ensures c.loop-level-test.true c.if-is_ne.ensures c.in_ok-order.ensures c.loop-level.invariant
+
+pub returns-then-is_ne : goal.returns-then-is_ne
+returns-then-is_ne c =
+    let table = collation c.args.table.now in
+    let decided = found_decides (numbers_at table) (elements_of table (chars c.args.text.now)) (elements_of table (chars c.args.other.now)) c.loop-level.level c.rules-rule-items.result.now table.rules _
+    c.in_ok-order.field-0 c.in-Some.order c.in-Some.is c.rules-rule-items.ensures c.loop-level-test.true c.if-is_ne.ensures c.in_ok-order.ensures in
+    sym (order_by_levels table (chars c.args.text.now) (chars c.args.other.now) ∙ c.loop-level.invariant ∙ decided)
+
+pub returns : goal.returns
+returns c =
+    let table = collation c.args.table.now in
+    let undecided = order_undecided (numbers_at table) (elements_of table (chars c.args.text.now)) (elements_of table (chars c.args.other.now)) c.loop-level.level c.rules-rule-items.result.now table.rules
+    c.rules-rule-items.ensures c.loop-level-test.false in
+    sym (order_by_levels table (chars c.args.text.now) (chars c.args.other.now) ∙ c.loop-level.invariant ∙ undecided)

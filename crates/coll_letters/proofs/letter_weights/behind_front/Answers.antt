@@ -1,0 +1,35 @@
+-- Each byte is the same element in both.
+use Rattle.std.proofs.Common.{◌≤◌, ℕ, List, chars, drop, length, refl, subst, sym}
+use Rattle.coll_nodes.specs.TableLayout.{collation}
+use Rattle.coll_letters.specs.LetterWeights.{OrdersAlike}
+use Rattle.coll_letters.proofs.LetterLemmas.{behind_bytes, same_behind}
+use Rattle.coll_letters.proofs.letter_weights.behind_front.Goals as goal
+
+pub returns-clause-same : goal.returns-clause-same
+returns-clause-same c =
+    let table = collation c.args._table.now in
+    let level = c.args._level in
+    let text = chars c.args.text.now in
+    let other = chars c.args.other.now in
+    subst (λ (l : List ℕ). OrdersAlike table level text other (chars l) (chars c.in-Some-split_at_checked.others.now)) (sym c.in-Some.ensures.back)
+    (subst (λ (l : List ℕ). OrdersAlike table level text other (chars (drop c.args.front c.args.text.now)) (chars l)) (sym c.in-Some-split_at_checked.ensures.back)
+    (same_behind table level c.args._marks.now c.requires.marks c.args.front c.args.text.now c.args.other.now c.utf8.text c.utf8.other c.requires.front))
+
+pub returns-clause-shorter : goal.returns-clause-shorter
+returns-clause-shorter c =
+    subst (λ (l : List ℕ). length (chars l) ≤ length (chars c.args.text.now)) (sym c.in-Some.ensures.back)
+    (behind_bytes c.args._marks.now c.args.front c.args.text.now c.utf8.text (λ k within. (c.requires.front k within).first)).shorter
+
+pub returns-clause-shorter_other : goal.returns-clause-shorter_other
+returns-clause-shorter_other c =
+    subst (λ (l : List ℕ). length (chars l) ≤ length (chars c.args.other.now)) (sym c.in-Some-split_at_checked.ensures.back)
+    (behind_bytes c.args._marks.now c.args.front c.args.other.now c.utf8.other (λ k within. (c.requires.front k within).second)).shorter
+
+pub returns-then-front-eq0-clause-same : goal.returns-then-front-eq0-clause-same
+returns-then-front-eq0-clause-same c = λ position gaps. (gaps, refl)
+
+pub returns-in_default-clause-same : goal.returns-in_default-clause-same
+returns-in_default-clause-same c = λ position gaps. (gaps, refl)
+
+pub returns-in_default-split_at_checked-clause-same : goal.returns-in_default-split_at_checked-clause-same
+returns-in_default-split_at_checked-clause-same c = λ position gaps. (gaps, refl)

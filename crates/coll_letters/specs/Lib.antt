@@ -1,0 +1,6 @@
+pub mod BackNumbers
+pub mod ElementMarks
+pub mod FirstNumbers
+pub mod FirstOrders
+pub mod LetterWeights
+pub mod LevelNumbers

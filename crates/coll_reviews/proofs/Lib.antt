@@ -1,0 +1,12 @@
+pub mod DeclaredLemmas
+pub mod KeptLemmas
+pub mod LetterOrders
+pub mod ListedKeyLemmas
+pub mod ListedLemmas
+pub mod MarkedLemmas
+pub mod NeighbourLemmas
+pub mod OrderedWords
+pub mod ReviewCases
+pub mod ReviewLemmas
+pub mod SeenWords
+pub mod SortedAgain

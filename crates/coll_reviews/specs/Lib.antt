@@ -1,0 +1,10 @@
+pub mod Declaring
+pub mod KeptWords
+pub mod ListedKeys
+pub mod ListedWords
+pub mod MovedWords
+pub mod ReviewLines
+pub mod ReviewRuns
+pub mod ReviewSteps
+pub mod Reviews
+pub mod WordOrders

@@ -1,0 +1,11 @@
+pub mod KeyedWords
+pub mod LedWords
+pub mod Neighbours
+pub mod NumberedWords
+pub mod PackedKeys
+pub mod SortRuns
+pub mod SortedWords
+pub mod StoredTexts
+pub mod WordReading
+pub mod WordTexts
+pub mod Words

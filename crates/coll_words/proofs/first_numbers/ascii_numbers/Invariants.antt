@@ -1,7 +1,0 @@
--- The numbers so far are those of their characters.
-use Rattle.coll_nodes.specs.TableLayout.{collation}
-use Rattle.coll_words.specs.FirstNumbers.{AreNumbersByCode}
-use Rattle.coll_words.proofs.first_numbers.ascii_numbers.Given as goal
-
-abbrev pub invariant-loop-kept : goal.invariant-loop-kept
-invariant-loop-kept l = AreNumbersByCode (collation l._table) l.ascii.items

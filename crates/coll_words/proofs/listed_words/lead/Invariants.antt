@@ -1,6 +1,0 @@
--- Those so far are led.
-use Rattle.coll_words.proofs.ListedLemmas.{LedSoFar}
-use Rattle.coll_words.proofs.listed_words.lead.Given as goal
-
-abbrev pub invariant-loop-listed : goal.invariant-loop-listed
-invariant-loop-listed l = LedSoFar l.initial.list l.list l.listed-index l.leader

@@ -1,8 +1,0 @@
--- The words so far are lent.
-use Rattle.std.proofs.Common.{◌≡◌, map, take}
-use Rattle.coll_words.specs.KeptWords.{kept_line}
-use Rattle.coll_words.specs.ListedWords.{all_numbered}
-use Rattle.coll_words.proofs.listed_words.listed.Given as goal
-
-abbrev pub invariant-loop-word : goal.invariant-loop-word
-invariant-loop-word l = all_numbered l.list.items ≡ map kept_line (take l.word-index l.kept)

@@ -1,5 +1,0 @@
-use Rattle.coll_words.proofs.PackedOrder.{packed_in_order}
-use Rattle.coll_words.proofs.packed_keys.packed_keys_are_ordered_alike.Goals as goal
-
-pub returns : goal.returns
-returns c = packed_in_order

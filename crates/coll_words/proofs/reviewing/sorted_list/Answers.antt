@@ -1,8 +1,0 @@
--- The words are numbered, and then sorted.
-use Rattle.std.proofs.Common.{map}
-use Rattle.coll_words.specs.KeptWords.{kept_line}
-use Rattle.coll_words.proofs.ReviewLemmas.{sorts_listed}
-use Rattle.coll_words.proofs.reviewing.sorted_list.Goals as goal
-
-pub returns-in-Some : goal.returns-in-Some
-returns-in-Some c = sorts_listed c.args.words.items c.in-Ok.list.items (map kept_line c.in-Some.kept.items) c.in-Ok.ensures.lines c.in-Ok.ensures.words c.in-Some.ensures
