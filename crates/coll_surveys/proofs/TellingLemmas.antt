@@ -10,7 +10,7 @@ use Rattle.coll_nodes.specs.Table.{Collation}
 use Rattle.coll_nodes.specs.TableLayout.{TableValue, collation}
 use Rattle.coll_texts.specs.BuilderStates.{BuilderState, line_fault}
 use Rattle.coll_advice.specs.declared.found.Found.{Found}
-use Rattle.coll_bench.specs.declared.faults.Fault.TheVariants as fault
+use Rattle.coll_faults.specs.declared.faults.Fault.TheVariants as fault
 use Rattle.coll_surveys.specs.DeltaSurveys.{alone_faults, block_faults, block_left, category_faults, faults_told, open_faults, passed_faults, statement_faults, table_left}
 use Rattle.coll_surveys.specs.TableSurveys.{bare_line, judged_faults, judging, line_faults, load_faults, outside_faults, told_of_table}
 use Rattle.coll_surveys.specs.ToldFaults.{AreAmong, LineFault, Tells, at_line, told_fault}

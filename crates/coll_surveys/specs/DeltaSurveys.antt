@@ -1,6 +1,7 @@
 -- What is wrong with a line of a delta file: what judging it gives over the table, and with the block, that the lines before it left (the
 -- project's own).
-use Rattle.std.specs.Prelude.{ℕ, nat_le, if◌then◌else◌, List, [], ◌∷◌, ◌++◌, length, map, get_or, Option, Some, None, option_map}
+use Rattle.std.specs.Prelude.{ℕ, Bool, true, false, nat_le, if◌then◌else◌, List, [], ◌∷◌, ◌++◌, length, map, get_or}
+use Rattle.std.specs.Prelude.{Option, Some, None, option_map}
 use Rattle.std.specs.Prelude.{Result, Ok, Err}
 use Rattle.coll_lex.specs.declared.tokens.Token.{Token}
 use Rattle.coll_syntax.specs.DeltaLines.{delta_line}
@@ -21,9 +22,10 @@ use Rattle.coll_table.specs.Delta.{delta}
 use Rattle.coll_table.specs.declared.refusals.Refusal.{Refusal}
 use Rattle.coll_advice.specs.Faults.{faults}
 use Rattle.coll_advice.specs.declared.found.Found.{Found}
-use Rattle.coll_bench.specs.Faults.{delta_fault_of}
-use Rattle.coll_bench.specs.declared.faults.Fault.TheVariants as fault
-use Rattle.coll_surveys.specs.ToldFaults.{LineFault, at_line}
+use Rattle.coll_faults.specs.Faults.{delta_fault_of}
+use Rattle.coll_faults.specs.declared.faults.Fault.TheVariants as fault
+use Rattle.coll_surveys.specs.SurveyedLines.{Given, Handed, Refused}
+use Rattle.coll_surveys.specs.ToldFaults.{LineFault, Tells, at_line}
 use Rattle.coll_surveys.specs.declared.delta_surveys.DeltaSurvey.{DeltaSurvey}
 use Rattle.coll_surveys.specs.declared.findings.FoundFault.{FoundFault}
 use Rattle.coll_surveys.specs.declared.line_surveys.Opening.{Opening}
@@ -146,6 +148,27 @@ read_faults table block number begins (Err f) = at_line number (fault.Syntax f) 
 -- a line of these tokens, which begins so
 abbrev pub faults_of_line : Collation → Option OpenBlock → ℕ → Opening → List Token → List LineFault
 faults_of_line table block number begins tokens = read_faults table block number begins (delta_line tokens)
+
+-- a line that is handed on
+abbrev pub faults_by : Collation → Option OpenBlock → Handed → List LineFault
+faults_by table block (Given number begins tokens) = faults_of_line table block number begins tokens
+faults_by table block (Refused number begins f) = at_line number (fault.Lex f) ∷ passed_faults table block begins
+
+-- what is told of a line that is handed on is what is wrong with it, over the table and with the block that the lines before it left
+pub record TellsDeltaLine (old : DeltaSurvey) (handed : Handed) (new : DeltaSurvey) : Type 0 where
+  pub told : Tells (faults_told old) (faults_told new) (faults_by (table_left old) (block_left old) handed)
+
+-- a line ends the category, as the grammar reads it
+abbrev pub is_delta_end : DeltaLine → Bool
+is_delta_end line.EndCategory = true
+is_delta_end _ = false
+
+abbrev pub ends_read : Result DeltaLine SyntaxFault → Bool
+ends_read (Ok read) = is_delta_end read
+ends_read (Err f) = false
+
+abbrev pub ends_delta : List Token → Bool
+ends_delta tokens = ends_read (delta_line tokens)
 
 -- The end of a text.
 

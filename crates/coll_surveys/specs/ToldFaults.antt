@@ -2,8 +2,8 @@
 use Rattle.std.specs.Prelude.{◌≡◌, ◌⊎◌, ◌==◌, ◌&&◌, ◌||◌, ℕ, Bool, true, false, List, [], ◌∷◌, ◌++◌, map}
 use Rattle.std.specs.List.{IsDistinct}
 use Rattle.coll_syntax.specs.Identifier.{same_id}
-use Rattle.coll_bench.specs.Faults.{fault_number}
-use Rattle.coll_bench.specs.declared.faults.Fault.{Fault}
+use Rattle.coll_faults.specs.Faults.{fault_number}
+use Rattle.coll_faults.specs.declared.faults.Fault.{Fault}
 use Rattle.coll_surveys.specs.declared.findings.About.{About}
 use Rattle.coll_surveys.specs.declared.findings.About.TheVariants as about
 use Rattle.coll_surveys.specs.declared.findings.FoundFault.{FoundFault}

@@ -2,8 +2,12 @@
 //!
 //! Such a table is there already, built of this text, so no line is judged or put to a builder again. What is told stands on few kinds of
 //! lines: `script`, and the declarations of names that have no entry. The order lines, which are most, are passed over unread.
+//!
+//! The plain form is `survey_table`, which serves where the table has a fault; the test `surveys` of `coll_tests` compares both.
 
-ghost use Rattle.std.specs.Prelude.{IfOk};
+ghost use Rattle.std.specs.Prelude.{◌≡◌, ◌<◌, [], length, IfOk, Some};
+ghost use Rattle.coll_texts.specs.BuilderStates.{is_end};
+ghost use Rattle.coll_surveys.specs.TableSurveys.{ends_table};
 ghost use Rattle.coll_surveys.specs.ToldFaults.{AreOnce};
 
 use crate::collecting::{Collected, Surveyed};
@@ -21,16 +25,20 @@ struct AcceptedSurvey {
     alloc: Global,
     told: Collected,
     declarations: Declarations,
+    ghost none: { length told.told.faults.items < 1 },
 }
 
-/// Surveys a text, which is input 0, that gives this table and has no fault: what is told are the warnings that `survey_table` tells.
+/// Surveys a text, which is input 0, that gives this table and has no fault: what is told are the warnings that `survey_table` tells, and
+/// no fault.
 pub fn survey_accepted(
     alloc: Global,
     keys: HashKeys,
     text: &[u8],
     table: Table,
 ) -> Result<Surveyed, AllocError>
-    ensures { IfOk result (λ surveyed. AreOnce surveyed.told.faults.items) }
+    ensures once { IfOk result (λ surveyed. AreOnce surveyed.told.faults.items) }
+    ensures none { IfOk result (λ surveyed. surveyed.told.faults.items ≡ []) }
+    ensures table { IfOk result (λ surveyed. surveyed.table ≡ Some table) }
 {
     let mut survey = AcceptedSurvey {
         alloc,
@@ -50,7 +58,9 @@ impl AcceptedSurvey {
 
     // What is told, and a table.
     fn over(self, table: Table) -> Surveyed
-        ensures { AreOnce result.told.faults.items }
+        ensures once { AreOnce result.told.faults.items }
+        ensures none { result.told.faults.items ≡ [] }
+        ensures table { result.table ≡ Some table }
     {
         let AcceptedSurvey {
             alloc: _,
@@ -65,7 +75,9 @@ impl AcceptedSurvey {
     }
 
     // Takes a line, and answers whether it ends the category.
-    fn take_read(&mut self, number: u32, read: TableLine) -> Result<bool, AllocError> {
+    fn take_read(&mut self, number: u32, read: TableLine) -> Result<bool, AllocError>
+        ensures { IfOk result (λ ended. ended ≡ is_end read) }
+    {
         match read {
             TableLine::Symbol(name) => {
                 self.declarations
@@ -87,7 +99,9 @@ impl AcceptedSurvey {
     }
 
     // Takes a line that declares no own name, and answers whether it ends the category.
-    fn take_other(&mut self, number: u32, read: &TableLine) -> Result<bool, AllocError> {
+    fn take_other(&mut self, number: u32, read: &TableLine) -> Result<bool, AllocError>
+        ensures { IfOk result (λ ended. ended ≡ is_end read.now) }
+    {
         if let TableLine::Script = read {
             self.told.warn(Warning::ScriptWithoutEffect, number, None)?;
         }
@@ -96,6 +110,10 @@ impl AcceptedSurvey {
 }
 
 impl TakesLines for AcceptedSurvey {
+    ghost takes = { λ old handed new. Unit {0} };
+
+    ghost ends = { ends_table };
+
     fn take(&mut self, line: &Line, _opening: Opening) -> Result<bool, AllocError> {
         match parse_table_line(self.alloc, line) {
             Ok(read) => self.take_read(line.number, read),

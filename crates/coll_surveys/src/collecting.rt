@@ -4,7 +4,7 @@
 //! there are, and the first. No fault is told twice (`AreOnce`): none of one line, and that an identifier isn't declared, or that a
 //! weight names it and it has no entry, is told once of it, for all lines.
 
-ghost use Rattle.std.specs.Prelude.{◌≡◌, ◌∷◌, [], reverse, IfOk, OnOk};
+ghost use Rattle.std.specs.Prelude.{◌≡◌, ◌∷◌, [], reverse, IfOk, IsOk, OnOk};
 ghost use Rattle.std.specs.List.{IsDistinct-prop, list_any};
 ghost use Rattle.std.specs.Option.{option_map};
 ghost use Rattle.coll_surveys.specs.GatheredWarnings.{Warns};
@@ -12,7 +12,7 @@ ghost use Rattle.coll_surveys.specs.ToldFaults.{AreOnce, Tells, are_same, told_f
 
 use crate::findings::{About, FoundFault, NOT_DECLARED, WEIGHT_NOT_PLACED};
 use crate::warnings::{Warning, Warnings};
-use coll_bench::{Fault, RunFault};
+use coll_faults::{Fault, RunFault};
 use coll_lookups::{HashKeys, IdSet};
 use coll_syntax::Id;
 use coll_table::Table;
@@ -53,7 +53,8 @@ impl Surveyed {
 
     /// The same, unless memory was refused to the survey.
     pub(crate) fn if_done(self, done: Result<(), AllocError>) -> Result<Surveyed, AllocError>
-        ensures { IfOk result (λ surveyed. surveyed ≡ self) }
+        ensures surveyed { IfOk result (λ surveyed. surveyed ≡ self) }
+        ensures done { OnOk result (IsOk done) }
     {
         match done {
             Ok(()) => Ok(self),
@@ -80,7 +81,9 @@ pub(crate) struct Collected {
 
 impl Collected {
     /// Nothing told of an input yet.
-    pub fn new(alloc: Global, keys: HashKeys, input: usize) -> Collected {
+    pub fn new(alloc: Global, keys: HashKeys, input: usize) -> Collected
+        ensures { result.told.faults.items ≡ [] }
+    {
         Collected {
             input,
             told: Told {

@@ -7,10 +7,11 @@
 ghost use Rattle.std.specs.Prelude.{◌≡◌, ◌∷◌, [], map, IfOk, OnOk};
 ghost use Rattle.coll_lex.specs.Names.{AreTokens};
 ghost use Rattle.coll_requests.specs.DeltaFaults.{early_fault};
-ghost use Rattle.coll_bench.specs.Faults.{delta_fault_of};
-ghost use Rattle.coll_bench.specs.declared.faults.Fault.TheVariants as refused;
+ghost use Rattle.coll_faults.specs.Faults.{delta_fault_of};
+ghost use Rattle.coll_faults.specs.declared.faults.Fault.TheVariants as refused;
 ghost use Rattle.coll_surveys.specs.ToldFaults.{AreOnce, Tells, at_line};
-ghost use Rattle.coll_surveys.specs.DeltaSurveys.{alone_faults, block_faults, category_faults, early_faults, end_faults, ended_faults, faults_of_line};
+ghost use Rattle.coll_surveys.specs.DeltaSurveys.{TellsDeltaLine, alone_faults, block_faults, category_faults, early_faults, end_faults};
+ghost use Rattle.coll_surveys.specs.DeltaSurveys.{ended_faults, ends_delta, faults_of_line, is_delta_end};
 ghost use Rattle.coll_surveys.specs.DeltaSurveys.{block_left, faults_told, found_fault, line_faults, open_faults, order_faults};
 ghost use Rattle.coll_surveys.specs.DeltaSurveys.{passed_faults, refused_faults, statement_faults, table_left};
 
@@ -23,7 +24,7 @@ use crate::unchanged::changed_nothing;
 use crate::unplaced::{Declarations, DeclaredName};
 use crate::warnings::Warning;
 use coll_advice::{Found, faults_of};
-use coll_bench::Fault;
+use coll_faults::Fault;
 use coll_lex::{EarlyEnd, LexFault, Line, TextBuf};
 use coll_lookups::HashKeys;
 use coll_requests::DeltaFault;
@@ -146,8 +147,9 @@ impl DeltaSurvey {
     // block that the lines before it left.
     fn take_line(&mut self, line: &Line, opening: Opening) -> Result<bool, AllocError>
         requires { AreTokens line.now.tokens }
-        ensures { OnOk result (Tells (faults_told self.old) (faults_told self.new)
+        ensures told { OnOk result (Tells (faults_told self.old) (faults_told self.new)
             (faults_of_line (table_left self.old) (block_left self.old) line.now.number opening line.now.tokens)) }
+        ensures ended { IfOk result (λ ended. ended ≡ ends_delta line.now.tokens) }
     {
         match parse_delta_line(self.alloc, line) {
             Ok(read) => {
@@ -530,6 +532,10 @@ impl DeltaSurvey {
 }
 
 impl TakesLines for DeltaSurvey {
+    ghost takes = { TellsDeltaLine };
+
+    ghost ends = { ends_delta };
+
     fn take(&mut self, line: &Line, opening: Opening) -> Result<bool, AllocError> {
         self.take_line(line, opening)
     }
@@ -540,6 +546,8 @@ impl TakesLines for DeltaSurvey {
 }
 
 // Whether a line ends the category.
-fn ends_category(line: &DeltaLine) -> bool {
+fn ends_category(line: &DeltaLine) -> bool
+    ensures { result ≡ is_delta_end line.now }
+{
     matches!(line, DeltaLine::EndCategory)
 }

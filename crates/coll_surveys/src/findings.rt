@@ -5,7 +5,7 @@ ghost use Rattle.coll_surveys.specs.ToldFaults.{are_same, is_told_by_id, same_su
 
 use crate::foreign_words::ForeignWord;
 use coll_advice::advice_of;
-use coll_bench::RunFault;
+use coll_faults::RunFault;
 use coll_lex::TextBuf;
 use coll_syntax::Id;
 

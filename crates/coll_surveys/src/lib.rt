@@ -2,13 +2,15 @@
 //!
 //! A survey judges each line of a text by the lines before it; one that is refused is told and passed over, so that those behind it are
 //! judged by as much as possible. What is told of a line is what judging it gives, over what the lines before it left, each fault once
-//! (`ToldFaults`); no clause says that it is all, and tests show that. A way through the crate:
+//! (`ToldFaults`); of a table the public call says so of all lines (`table_faults`). No clause says that it is all, and tests show that. A
+//! way through the crate:
 //!
 //! - `findings`: faults that are told, with `foreign_words`: keywords of other dialects; `warnings`: what a text says to no purpose, by
 //!   kinds;
-//! - `collecting`: what is told, as it is gathered; `line_surveys`: the lines of a text, handed on one after another; `subjects`: what
-//!   a fault is about; `unplaced`: what is declared and never placed;
-//! - `table_surveys`, with `standings` and `table_weights`: a table, line by line (`TableSurveys`, `TableWeights`); `accepted_tables`: one without fault;
+//! - `collecting`: what is told, as it is gathered; `line_surveys`: the lines of a text, handed on one after another (`SurveyedLines`);
+//!   `subjects`: what a fault is about; `unplaced`: what is declared and never placed;
+//! - `table_surveys`, with `standings` and `table_weights`: a table, line by line (`TableSurveys`, `TableWeights`); `accepted_tables`: one
+//!   without fault;
 //! - `delta_surveys`, with `open_blocks` and `unchanged`: a delta file, statement by statement (`DeltaSurveys`).
 #![tactic(auto)]
 

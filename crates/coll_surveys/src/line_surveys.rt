@@ -6,7 +6,12 @@
 //! Where only declarations and other keywords are wanted of a text that is known to have no fault, an order line that begins with a
 //! symbol and stands alone is passed over by its first and its last byte, and is only counted (`survey_keywords`).
 
+ghost use Rattle.std.specs.Prelude.{◌≡◌, ◌==◌, ◌<◌, ◌∷◌, [], true, false, length, slice_index, take, All, IfNone, IfOk, IfSome, OnOk};
+ghost use Rattle.coll_devices.specs.PhysicalLines.{line_feed, lines_of};
+ghost use Rattle.coll_lex.specs.LogicalLines.{number_of};
 ghost use Rattle.coll_lex.specs.Names.{AreTokens};
+ghost use Rattle.coll_surveys.specs.SurveyedLines.{Given, HandsOn, HandsOnAll, Takes, ended_early, first_lines, handed_on, lines_state};
+ghost use Rattle.coll_surveys.specs.SurveyedLines.{opening_at as stated_opening_at, opening_of as stated_opening};
 
 use coll_lex::{Chars, EarlyEnd, LexFault, Lexer, Line, past_blanks, without_return};
 use std::alloc::{AllocError, Global};
@@ -24,14 +29,26 @@ pub(crate) enum Opening {
 
 /// What takes the lines of a text, accepted by the lexer or refused.
 pub(crate) trait TakesLines {
+    ghost use Rattle.std.specs.Prelude.{◌≡◌, Bool, List, IfOk, OnOk};
+    ghost use Rattle.coll_lex.specs.Names.{AreTokens};
+    ghost use Rattle.coll_lex.specs.declared.tokens.Token.{Token};
+    ghost use Rattle.coll_surveys.specs.SurveyedLines.{Handed, Given, Refused};
+
+    // What is handed on leads from the first value to the second.
+    ghost takes: { Self → Handed → Self → Type 0 };
+
+    // Whether a line of these tokens ends the category.
+    ghost ends: { List Token → Bool };
+
     /// Takes a line of the category, and answers whether it ends the category.
     fn take(&mut self, line: &Line, opening: Opening) -> Result<bool, AllocError>
-        requires { AreTokens line.now.tokens };
+        requires { AreTokens line.now.tokens }
+        ensures taken { OnOk result (takes self.old (Given line.now.number opening line.now.tokens) self.new) }
+        ensures ended { IfOk result (λ ended. ended ≡ ends line.now.tokens) };
 
     /// Takes a line that the lexer refuses, or a text that ends in one.
-    fn refuse(&mut self, number: u32, opening: Opening, fault: LexFault) -> Result<(), AllocError>;
-
-    ghost use Rattle.coll_lex.specs.Names.{AreTokens};
+    fn refuse(&mut self, number: u32, opening: Opening, fault: LexFault) -> Result<(), AllocError>
+        ensures taken { OnOk result (takes self.old (Refused number opening fault) self.new) };
 }
 
 // Where the lines of a text stand.
@@ -66,7 +83,10 @@ pub(crate) fn survey_lines<T: TakesLines>(
     alloc: Global,
     text: &[u8],
     taker: &mut T,
-) -> Result<Option<EarlyEnd>, AllocError> {
+) -> Result<Option<EarlyEnd>, AllocError>
+    ensures taken { OnOk result (Takes T.takes (handed_on T.ends first_lines (lines_of text.now)) taker.old taker.new) }
+    ensures ended { IfOk result (λ end. end ≡ ended_early T.ends first_lines (lines_of text.now)) }
+{
     let mut lines = Lines::new(alloc, false)?;
     let end = lines.hand_on_all(text, taker);
     drop(lines);
@@ -87,16 +107,35 @@ pub(crate) fn survey_keywords<T: TakesLines>(
     Ok(())
 }
 
-// A text without the line feed at its end, which ends its last line and begins no other.
-fn without_last_feed(text: &[u8]) -> &[u8] {
-    match text.split_last() {
-        Some((b'\n', before)) => before,
-        _ => text,
+// The first line of a text, without the line feed that ends it, and what stands behind that, unless the text is empty.
+fn first_line(text: &[u8]) -> Option<(&[u8], &[u8])>
+    ensures none { IfNone result (text.now ≡ []) }
+    ensures lines { IfSome result (λ cut. lines_of text.now ≡ cut.0.now ∷ lines_of cut.1.now) }
+    ensures less { IfSome result (λ cut. length cut.1.now < length text.now) }
+{
+    if text.is_empty() {
+        return None;
+    }
+    match find_line_feed(text) {
+        Some(end) => Some((&text[..end], &text[end + 1..])),
+        None => Some((text, &text[text.len()..])),
     }
 }
 
+// Where the first line feed of a text stands, if it has one.
+fn find_line_feed(text: &[u8]) -> Option<usize>
+    ensures none { IfNone result (All (λ byte. (byte == line_feed) ≡ false) text.now) }
+    ensures within { IfSome result (λ at. at < length text.now) }
+    ensures found { IfSome result (λ at. (slice_index text.now at == line_feed) ≡ true) }
+    ensures first { IfSome result (λ at. All (λ byte. (byte == line_feed) ≡ false) (take at text.now)) }
+{
+    text.iter().position(is_line_feed)
+}
+
 // Whether a byte ends a line.
-fn is_line_feed(byte: &u8) -> bool {
+fn is_line_feed(byte: &u8) -> bool
+    ensures { result ≡ (byte.now == line_feed) }
+{
     *byte == b'\n'
 }
 
@@ -113,7 +152,11 @@ fn is_lone_order(special: Chars, line: &[u8]) -> bool {
 
 impl Lines {
     // No line was handed on yet.
-    fn new(alloc: Global, passes: bool) -> Result<Lines, AllocError> {
+    fn new(alloc: Global, passes: bool) -> Result<Lines, AllocError>
+        ensures state { IfOk result (λ lines. lines_state lines ≡ first_lines) }
+        ensures passes { IfOk result (λ lines. lines.passes ≡ passes) }
+        ensures passed { IfOk result (λ lines. lines.passed ≡ 0) }
+    {
         Ok(Lines {
             lexer: Lexer::new(alloc)?,
             passes,
@@ -128,21 +171,40 @@ impl Lines {
         &mut self,
         text: &[u8],
         taker: &mut T,
-    ) -> Result<Option<EarlyEnd>, AllocError> {
-        if !text.is_empty() {
-            for line in without_last_feed(text).split(is_line_feed) {
-                if self.is_passed_over(line) {
-                    self.passed = self.passed.saturating_add(1);
-                } else if self.hand_on(line, taker)? {
-                    return Ok(None);
-                }
+    ) -> Result<Option<EarlyEnd>, AllocError>
+        ensures { self.old.passes ≡ false → self.old.passed ≡ 0 → IfOk result (λ end. HandsOnAll T.takes T.ends (lines_state self.old)
+            (lines_of text.now) taker.old taker.new end) }
+    {
+        let mut left = text;
+        'lines: while let Some((line, behind)) = first_line(left) {
+            if self.hand_on_unless_passed(line, taker)? {
+                return Ok(None);
             }
+            left = behind;
         }
         Ok(Some(self.lexer.early_end(self.begun)))
     }
 
+    // Hands on a physical line, unless it is passed over, and answers whether it ends the category.
+    fn hand_on_unless_passed<T: TakesLines>(
+        &mut self,
+        line: &[u8],
+        taker: &mut T,
+    ) -> Result<bool, AllocError>
+        ensures { self.old.passes ≡ false → self.old.passed ≡ 0
+            → IfOk result (λ ended. HandsOn T.takes T.ends self.old line.now self.new taker.old taker.new ended) }
+    {
+        if self.is_passed_over(line) {
+            self.passed = self.passed.saturating_add(1);
+            return Ok(false);
+        }
+        self.hand_on(line, taker)
+    }
+
     // Whether a physical line is passed over.
-    fn is_passed_over(&self, line: &[u8]) -> bool {
+    fn is_passed_over(&self, line: &[u8]) -> bool
+        ensures { self.now.passes ≡ false → result ≡ false }
+    {
         self.passes
             && self.begun
             && self.lexer.pending().is_none()
@@ -150,12 +212,16 @@ impl Lines {
     }
 
     // The number of the logical line that the next physical line belongs to.
-    fn next_number(&self) -> u32 {
+    fn next_number(&self) -> u32
+        ensures { self.now.passed ≡ 0 → result ≡ number_of self.now.lexer }
+    {
         self.lexer.next_number().saturating_add(self.passed)
     }
 
     // Hands on a physical line, and answers whether it ends the category.
-    fn hand_on<T: TakesLines>(&mut self, line: &[u8], taker: &mut T) -> Result<bool, AllocError> {
+    fn hand_on<T: TakesLines>(&mut self, line: &[u8], taker: &mut T) -> Result<bool, AllocError>
+        ensures { self.old.passed ≡ 0 → IfOk result (λ ended. HandsOn T.takes T.ends self.old line.now self.new taker.old taker.new ended) }
+    {
         if self.begun {
             return self.hand_on_inside(line, taker);
         }
@@ -172,7 +238,10 @@ impl Lines {
         &mut self,
         line: &[u8],
         taker: &mut T,
-    ) -> Result<bool, AllocError> {
+    ) -> Result<bool, AllocError>
+        requires { self.old.begun ≡ true }
+        ensures { self.old.passed ≡ 0 → IfOk result (λ ended. HandsOn T.takes T.ends self.old line.now self.new taker.old taker.new ended) }
+    {
         let number = self.next_number();
         let opening = self.opening_at(line);
         match self.lexer.feed(line) {
@@ -197,6 +266,8 @@ impl Lines {
         taker: &mut T,
     ) -> Result<bool, AllocError>
         requires { AreTokens whole.tokens }
+        ensures taken { self.now.passed ≡ 0 → OnOk result (T.takes taker.old (Given whole.number opening whole.tokens) taker.new) }
+        ensures ended { IfOk result (λ ended. ended ≡ T.ends whole.tokens) }
     {
         let mut line = whole;
         line.number = line.number.saturating_add(self.passed);
@@ -206,7 +277,9 @@ impl Lines {
     }
 
     // What the logical line begins with that a physical line belongs to.
-    fn opening_at(&self, line: &[u8]) -> Opening {
+    fn opening_at(&self, line: &[u8]) -> Opening
+        ensures { result ≡ stated_opening_at (lines_state self.now) line.now }
+    {
         match self.lexer.pending() {
             Some(_) => self.opening,
             None => opening_of(without_return(line)),
@@ -215,7 +288,9 @@ impl Lines {
 }
 
 // What a physical line begins with.
-fn opening_of(line: &[u8]) -> Opening {
+fn opening_of(line: &[u8]) -> Opening
+    ensures { result ≡ stated_opening line.now }
+{
     let text = past_blanks(line);
     if text.starts_with(b"reorder-after") {
         Opening::Block

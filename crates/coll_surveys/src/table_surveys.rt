@@ -4,19 +4,26 @@
 //! weights name is looked up behind that, in the table that all lines give (`table_weights`). Where the text doesn't end its order or
 //! its category, or gives no rules, the builder is ended here.
 
-ghost use Rattle.std.specs.Prelude.{◌≡◌, ◌≢◌, ◌∷◌, [], true, if◌then◌else◌, Err, IfOk, OnOk};
+ghost use Rattle.std.specs.Prelude.{◌≡◌, ◌≢◌, ◌∷◌, ◌++◌, [], map, true, if◌then◌else◌, Err, Ok, IfOk, IfSome, MatchOption, OnOk};
+ghost use Rattle.coll_devices.specs.PhysicalLines.{lines_of};
 ghost use Rattle.coll_lex.specs.Names.{AreTokens};
+ghost use Rattle.coll_nodes.specs.TableLayout.{collation};
 ghost use Rattle.coll_nodes.specs.WellFormed.{IsWellFormed};
 ghost use Rattle.coll_syntax.specs.Proper.{IsProperTableLine};
-ghost use Rattle.coll_texts.specs.BuilderStates.{line_fault, table_of};
+ghost use Rattle.coll_syntax.specs.TableLines.{table_line};
+ghost use Rattle.coll_texts.specs.BuilderStates.{is_end, line_fault, table_of};
 ghost use Rattle.coll_texts.specs.LoadFaults.{early_fault, lex_cause};
 ghost use Rattle.coll_texts.specs.Loading.{state_with};
 ghost use Rattle.coll_texts.specs.declared.load_faults.LoadCause.TheVariants as cause;
 ghost use Rattle.coll_texts.specs.declared.load_faults.LoadCause.TheVariants.{OutOfMemory};
-ghost use Rattle.coll_surveys.specs.ToldFaults.{AreOnce, Tells};
-ghost use Rattle.coll_surveys.specs.TableSurveys.{IsLeftBy, IsLeftJudged, bare_line, begins_order, closed_by, faults_of_line, judging};
-ghost use Rattle.coll_surveys.specs.TableSurveys.{line_faults, load_fault, load_faults, opened_by, outside_faults, standing_after};
-ghost use Rattle.coll_surveys.specs.TableSurveys.{standing_behind, standing_behind_start, standing_read, told_of_table};
+ghost use Rattle.coll_surveys.specs.SurveyedLines.{ended_early, first_lines};
+ghost use Rattle.coll_surveys.specs.ToldFaults.{AreAmong, AreOnce, Tells, told_fault};
+ghost use Rattle.coll_surveys.specs.TableSurveys.{IsEnded, TellsLine, bare_line, begins_order, built_behind, closed_by, end_faults};
+ghost use Rattle.coll_surveys.specs.TableSurveys.{ended_by, ends_table, faults_of_line, given_table, judging, left_by_line, left_read};
+ghost use Rattle.coll_surveys.specs.TableSurveys.{line_faults, lines_faults, lines_left, load_fault, load_faults, opened_by, opened_if};
+ghost use Rattle.coll_surveys.specs.TableSurveys.{outside_faults, ruled_behind, standing_after, standing_behind_start};
+ghost use Rattle.coll_surveys.specs.TableSurveys.{starts_order as stated_start, survey_state, table_lines, told_of_table};
+ghost use Rattle.coll_surveys.specs.TableWeights.{table_faults, text_weights};
 
 use crate::collecting::{Collected, Surveyed};
 use crate::findings::About;
@@ -26,7 +33,7 @@ use crate::subjects::{refused_subject, table_subject};
 use crate::table_weights::survey_weights;
 use crate::unplaced::{Declarations, DeclaredName};
 use crate::warnings::Warning;
-use coll_bench::Fault;
+use coll_faults::Fault;
 use coll_lex::{EarlyEnd, LexFault, Line};
 use coll_lookups::HashKeys;
 use coll_syntax::{OrderLine, SyntaxFault, TableLine, is_word, parse_table_line};
@@ -55,8 +62,13 @@ struct ReadTable {
 }
 
 /// Surveys a table, which is input 0.
+///
+/// Each fault that is told is one of those of its line: of what judging it gives, where it stands, over what the lines before it left, or
+/// of its weights, in the table that all lines give. The faults of lines come in their order, and those of weights behind them, in theirs.
 pub fn survey_table(alloc: Global, keys: HashKeys, text: &[u8]) -> Result<Surveyed, AllocError>
-    ensures { IfOk result (λ surveyed. AreOnce surveyed.told.faults.items) }
+    ensures once { IfOk result (λ surveyed. AreOnce surveyed.told.faults.items) }
+    ensures told { IfOk result (λ surveyed. AreAmong (map told_fault surveyed.told.faults.items) (table_faults text.now)) }
+    ensures table { IfOk result (λ surveyed. IfSome surveyed.table (λ table. collation table ≡ given_table text.now)) }
 {
     let mut survey = TableSurvey {
         alloc,
@@ -81,7 +93,10 @@ pub fn survey_table(alloc: Global, keys: HashKeys, text: &[u8]) -> Result<Survey
 impl ReadTable {
     // Ends a survey of which all lines were taken: the weights of the lines are looked up in the table that they give.
     fn end(mut self, builder: TableBuilder, text: &[u8]) -> Result<Surveyed, AllocError>
-        ensures { IfOk result (λ surveyed. AreOnce surveyed.told.faults.items) }
+        ensures once { IfOk result (λ surveyed. AreOnce surveyed.told.faults.items) }
+        ensures told { IfOk result (λ surveyed. Tells self.told.told.faults.items surveyed.told.faults.items
+            (text_weights (table_of (ended_by builder)) self.ruled text.now)) }
+        ensures table { IfOk result (λ surveyed. IfSome surveyed.table (λ table. collation table ≡ table_of (ended_by builder))) }
     {
         match ended_table(builder) {
             Ok(table) => {
@@ -96,7 +111,11 @@ impl ReadTable {
     }
 
     // Looks the weights of the lines up in the table that they give, if they give one, and warns of what is never placed.
-    fn look_up(&mut self, text: &[u8], table: &Option<Table>) -> Result<(), AllocError> {
+    fn look_up(&mut self, text: &[u8], table: &Option<Table>) -> Result<(), AllocError>
+        ensures { OnOk result (MatchOption table.now (self.new.told.told.faults.items ≡ self.old.told.told.faults.items)
+            (λ table. Tells self.old.told.told.faults.items self.new.told.told.faults.items
+            (text_weights (collation table) self.old.ruled text.now))) }
+    {
         match table {
             Some(table) => {
                 survey_weights(self.alloc, text, table, self.ruled, &mut self.told)?;
@@ -108,7 +127,9 @@ impl ReadTable {
 
     // What is told, and a table.
     fn over(self, table: Option<Table>) -> Surveyed
-        ensures { AreOnce result.told.faults.items }
+        ensures once { AreOnce result.told.faults.items }
+        ensures told { result.told.faults.items ≡ self.told.told.faults.items }
+        ensures table { result.table ≡ table }
     {
         let ReadTable {
             alloc: _,
@@ -126,7 +147,12 @@ impl ReadTable {
 
 impl TableSurvey {
     // Takes all lines of a text, and tells how it ends where its category doesn't.
-    fn take_all(&mut self, text: &[u8]) -> Result<(), AllocError> {
+    fn take_all(&mut self, text: &[u8]) -> Result<(), AllocError>
+        ensures told { OnOk result (Tells (told_of_table self.old) (told_of_table self.new)
+            (lines_faults (survey_state self.old) (table_lines text.now)
+            ++ end_faults (ended_early ends_table first_lines (lines_of text.now)))) }
+        ensures left { OnOk result (survey_state self.new ≡ lines_left (survey_state self.old) (table_lines text.now)) }
+    {
         let alloc = self.alloc;
         match survey_lines(alloc, text, self)? {
             Some(end) => self.tell_end(end),
@@ -136,13 +162,18 @@ impl TableSurvey {
 
     // Tells how a text ends of which the category doesn't.
     fn tell_end(&mut self, end: EarlyEnd) -> Result<(), AllocError>
-        ensures { OnOk result (Tells (told_of_table self.old) (told_of_table self.new) (load_fault (early_fault end) ∷ [])) }
+        ensures told { OnOk result (Tells (told_of_table self.old) (told_of_table self.new) (load_fault (early_fault end) ∷ [])) }
+        ensures left { survey_state self.new ≡ survey_state self.old }
     {
         self.tell_load(LoadFault::from(end), About::Nothing)
     }
 
     // The builder, and what was read beside it.
-    fn into_parts(self) -> (TableBuilder, ReadTable) {
+    fn into_parts(self) -> (TableBuilder, ReadTable)
+        ensures builder { result.0 ≡ self.builder }
+        ensures told { result.1.told.told.faults.items ≡ told_of_table self }
+        ensures ruled { result.1.ruled ≡ self.ruled }
+    {
         let TableSurvey {
             alloc,
             builder,
@@ -167,6 +198,7 @@ impl TableSurvey {
         ensures told { OnOk result (Tells (told_of_table self.old) (told_of_table self.new) (load_fault fault ∷ [])) }
         ensures builder { self.new.builder ≡ self.old.builder }
         ensures standing { self.new.standing ≡ self.old.standing }
+        ensures ruled { self.new.ruled ≡ self.old.ruled }
     {
         self.told
             .tell(fault.line, fault.line, Fault::Load(fault), about)
@@ -178,11 +210,16 @@ impl TableSurvey {
         requires { AreTokens line.now.tokens }
         ensures told { OnOk result (Tells (told_of_table self.old) (told_of_table self.new)
             (faults_of_line self.old.builder self.old.standing line.now.number line.now.tokens)) }
-        ensures standing { OnOk result (self.new.standing ≡ standing_behind self.old.standing line.now.tokens) }
-        ensures left { OnOk result (IsLeftBy self.old.builder self.new.builder self.old.standing line.now.number line.now.tokens) }
+        ensures left { OnOk result (survey_state self.new ≡ left_read (survey_state self.old) line.now.number (begins_order line.now.tokens)
+            (table_line line.now.tokens)) }
+        ensures ended { IfOk result (λ ended. ended ≡ ends_table line.now.tokens) }
     {
         match parse_table_line(self.alloc, line) {
-            Ok(read) => self.put(line, read),
+            Ok(read) => {
+                let ends = ends_category(&read);
+                self.put(line, read)?;
+                Ok(ends)
+            }
             Err(SyntaxFault::OutOfMemory) => Err(AllocError),
             Err(fault) => {
                 self.refuse_line(line, fault)?;
@@ -195,8 +232,8 @@ impl TableSurvey {
     fn refuse_line(&mut self, line: &Line, fault: SyntaxFault) -> Result<(), AllocError>
         ensures told { OnOk result (Tells (told_of_table self.old) (told_of_table self.new)
             (load_fault (record { line = line.now.number; cause = cause.Syntax fault }) ∷ [])) }
-        ensures standing { OnOk result (self.new.standing ≡ standing_read self.old.standing (begins_order line.now.tokens) (Err fault)) }
-        ensures left { OnOk result (self.new.builder ≡ (if begins_order line.now.tokens then opened_by self.old.builder else self.old.builder)) }
+        ensures left { OnOk result (survey_state self.new
+            ≡ left_read (survey_state self.old) line.now.number (begins_order line.now.tokens) (Err fault)) }
     {
         let about = refused_subject(self.alloc, line, fault)?;
         self.pass_over(begins_with_order_start(line))?;
@@ -211,13 +248,13 @@ impl TableSurvey {
     fn pass_over(&mut self, begins: bool) -> Result<(), AllocError>
         ensures told { self.new.told ≡ self.old.told }
         ensures standing { OnOk result (self.new.standing ≡ (if begins then standing_behind_start self.old.standing else self.old.standing)) }
-        ensures left { OnOk result (self.new.builder ≡ (if begins then opened_by self.old.builder else self.old.builder)) }
+        ensures left { OnOk result (self.new.builder ≡ opened_if begins self.old.builder) }
+        ensures ruled { self.new.ruled ≡ self.old.ruled }
     {
-        if !begins {
-            return Ok(());
+        if begins {
+            self.standing = self.standing.behind_refused_start();
         }
-        self.standing = self.standing.behind_refused_start();
-        self.open()
+        self.open_if(begins)
     }
 
     // Tells a line that the lexer refuses.
@@ -225,6 +262,7 @@ impl TableSurvey {
         ensures told { OnOk result (Tells (told_of_table self.old) (told_of_table self.new)
             (load_fault (record { line = number; cause = lex_cause fault }) ∷ [])) }
         ensures standing { self.new.standing ≡ self.old.standing }
+        ensures ruled { self.new.ruled ≡ self.old.ruled }
         ensures left { self.new.builder ≡ self.old.builder }
     {
         let fault = LoadFault {
@@ -234,15 +272,13 @@ impl TableSurvey {
         self.tell_load(fault, About::Nothing)
     }
 
-    // Puts a line that the grammar accepts to the builder, and answers whether it ends the category.
-    fn put(&mut self, line: &Line, read: TableLine) -> Result<bool, AllocError>
+    // Puts a line that the grammar accepts to the builder.
+    fn put(&mut self, line: &Line, read: TableLine) -> Result<(), AllocError>
         requires tokens { AreTokens line.now.tokens }
         requires proper { IsProperTableLine read }
         ensures told { OnOk result (Tells (told_of_table self.old) (told_of_table self.new)
             (line_faults self.old.builder self.old.standing line.now.number read)) }
-        ensures standing { OnOk result (self.new.standing ≡ standing_after self.old.standing read) }
-        ensures left { OnOk result (IsLeftJudged (judging self.old.builder self.old.standing read) self.new.builder line.now.number
-            (bare_line read)) }
+        ensures left { OnOk result (survey_state self.new ≡ left_by_line (survey_state self.old) line.now.number read) }
     {
         let starts = begins_order(&read);
         match self.prepare(line.number, &read) {
@@ -254,31 +290,32 @@ impl TableSurvey {
         }
     }
 
-    // Puts a line without its weights to the builder, which may open an order, and may declare a name. The answer is whether the line
-    // ends the category.
+    // Puts a line without its weights to the builder, which may open an order, and may declare a name.
     fn put_bare(
         &mut self,
         line: &Line,
         starts: bool,
         name: Option<DeclaredName>,
         bare: TableLine,
-    ) -> Result<bool, AllocError>
+    ) -> Result<(), AllocError>
         requires tokens { AreTokens line.now.tokens }
         requires proper { IsProperTableLine bare }
         ensures told { OnOk result (Tells (told_of_table self.old) (told_of_table self.new)
             (load_faults (line_fault self.old.builder (record { number = line.now.number; line = bare })))) }
         ensures standing { self.new.standing ≡ self.old.standing }
-        ensures left { OnOk result (IsLeftJudged self.old.builder self.new.builder line.now.number bare) }
+        ensures left { OnOk result (self.new.builder ≡ built_behind self.old.builder (record { number = line.now.number; line = bare })
+            starts (line_fault self.old.builder (record { number = line.now.number; line = bare }))) }
+        ensures ruled { OnOk result (self.new.ruled
+            ≡ ruled_behind self.old.ruled starts (line_fault self.old.builder (record { number = line.now.number; line = bare }))) }
     {
         match self.builder.take(line.number, bare) {
-            Ok(ended) => {
+            Ok(_) => {
                 self.ruled = self.ruled || starts;
-                self.note(line.number, name)?;
-                Ok(ended)
+                self.note(line.number, name)
             }
             Err(fault) => {
                 drop(name);
-                self.refuse_read(line, fault)
+                self.refuse_read(line, starts, fault)
             }
         }
     }
@@ -289,6 +326,7 @@ impl TableSurvey {
             (outside_faults self.old.standing number read.now)) }
         ensures judging { OnOk result (self.new.builder ≡ judging self.old.builder self.old.standing read.now) }
         ensures standing { OnOk result (self.new.standing ≡ standing_after self.old.standing read.now) }
+        ensures ruled { self.new.ruled ≡ self.old.ruled }
     {
         if let TableLine::Script = read {
             self.told.warn(Warning::ScriptWithoutEffect, number, None)?;
@@ -305,6 +343,7 @@ impl TableSurvey {
             (outside_faults self.old.standing number read.now)) }
         ensures judging { OnOk result (self.new.builder ≡ judging self.old.builder self.old.standing read.now) }
         ensures standing { self.new.standing ≡ self.old.standing }
+        ensures ruled { self.new.ruled ≡ self.old.ruled }
     {
         match self.standing {
             Standing::Outside if is_in_order(read) => {
@@ -322,6 +361,7 @@ impl TableSurvey {
             (load_fault (record { line = number; cause = cause.OutsideOrder }) ∷ [])) }
         ensures builder { self.new.builder ≡ self.old.builder }
         ensures standing { self.new.standing ≡ self.old.standing }
+        ensures ruled { self.new.ruled ≡ self.old.ruled }
     {
         let fault = LoadFault {
             line: number,
@@ -336,6 +376,7 @@ impl TableSurvey {
         ensures told { self.new.told ≡ self.old.told }
         ensures builder { self.new.builder ≡ self.old.builder }
         ensures standing { self.new.standing ≡ self.old.standing }
+        ensures ruled { self.new.ruled ≡ self.old.ruled }
     {
         match name {
             Some(name) => self.declarations.declare(number, name),
@@ -343,37 +384,56 @@ impl TableSurvey {
         }
     }
 
-    // Tells a line that the builder refuses, and answers whether it ends the category. It is read once more for what it is about.
-    fn refuse_read(&mut self, line: &Line, fault: LoadFault) -> Result<bool, AllocError>
+    // Tells a line that the builder refuses, which may be one that would open an order. It is read once more for what it is about.
+    fn refuse_read(&mut self, line: &Line, starts: bool, fault: LoadFault) -> Result<(), AllocError>
         requires { AreTokens line.now.tokens }
         ensures memory { OnOk result (fault.cause ≢ OutOfMemory) }
         ensures told { OnOk result (Tells (told_of_table self.old) (told_of_table self.new) (load_fault fault ∷ [])) }
         ensures standing { self.new.standing ≡ self.old.standing }
+        ensures ruled { self.new.ruled ≡ self.old.ruled }
+        ensures left { OnOk result (self.new.builder ≡ opened_if starts self.old.builder) }
     {
         if let LoadCause::OutOfMemory = fault.cause {
             return Err(AllocError);
         }
         match parse_table_line(self.alloc, line) {
             Ok(read) => {
-                let ends = self.tell_refused(fault, &read);
+                let told = self.tell_refused(fault, starts, &read);
                 drop(read);
-                ends
+                told
             }
             Err(_) => Err(AllocError),
         }
     }
 
-    // Tells a line that the builder refuses, and answers whether it ends the category. One that would open an order opens one.
-    fn tell_refused(&mut self, fault: LoadFault, read: &TableLine) -> Result<bool, AllocError>
+    // Tells a line that the builder refuses. One that would open an order opens one.
+    fn tell_refused(
+        &mut self,
+        fault: LoadFault,
+        starts: bool,
+        read: &TableLine,
+    ) -> Result<(), AllocError>
         ensures told { OnOk result (Tells (told_of_table self.old) (told_of_table self.new) (load_fault fault ∷ [])) }
         ensures standing { self.new.standing ≡ self.old.standing }
+        ensures ruled { self.new.ruled ≡ self.old.ruled }
+        ensures left { OnOk result (self.new.builder ≡ opened_if starts self.old.builder) }
     {
         let about = table_subject(read, fault.cause)?;
-        if begins_order(read) {
-            self.open()?;
+        self.open_if(starts)?;
+        self.tell_load(fault, about)
+    }
+
+    // Opens an order, if one is to be opened.
+    fn open_if(&mut self, opens: bool) -> Result<(), AllocError>
+        ensures told { self.new.told ≡ self.old.told }
+        ensures opened { OnOk result (self.new.builder ≡ opened_if opens self.old.builder) }
+        ensures standing { self.new.standing ≡ self.old.standing }
+        ensures ruled { self.new.ruled ≡ self.old.ruled }
+    {
+        if !opens {
+            return Ok(());
         }
-        self.tell_load(fault, about)?;
-        Ok(ends_category(read))
+        self.open()
     }
 
     // Opens an order, with the rules that stand, or else one level.
@@ -381,6 +441,7 @@ impl TableSurvey {
         ensures told { self.new.told ≡ self.old.told }
         ensures opened { OnOk result (self.new.builder ≡ opened_by self.old.builder) }
         ensures standing { self.new.standing ≡ self.old.standing }
+        ensures ruled { self.new.ruled ≡ self.old.ruled }
     {
         let start = TableLine::OrderStart {
             section: None,
@@ -394,6 +455,7 @@ impl TableSurvey {
         ensures told { self.new.told ≡ self.old.told }
         ensures closed { OnOk result (self.new.builder ≡ closed_by self.old.builder) }
         ensures standing { self.new.standing ≡ self.old.standing }
+        ensures ruled { self.new.ruled ≡ self.old.ruled }
     {
         self.put_own(TableLine::OrderEnd)
     }
@@ -404,15 +466,17 @@ impl TableSurvey {
         ensures told { self.new.told ≡ self.old.told }
         ensures taken { OnOk result (self.new.builder ≡ state_with self.old.builder 0 line) }
         ensures standing { self.new.standing ≡ self.old.standing }
+        ensures ruled { self.new.ruled ≡ self.old.ruled }
     {
-        match self.builder.take(0, line) {
-            Ok(_) => Ok(()),
-            Err(_) => Err(AllocError),
-        }
+        take_own(&mut self.builder, line)
     }
 }
 
 impl TakesLines for TableSurvey {
+    ghost takes = { TellsLine };
+
+    ghost ends = { ends_table };
+
     fn take(&mut self, line: &Line, _opening: Opening) -> Result<bool, AllocError> {
         self.take_line(line)
     }
@@ -443,7 +507,9 @@ fn declared_name(line: &TableLine) -> Result<Option<DeclaredName>, AllocError> {
 }
 
 // Whether a line opens an order.
-fn begins_order(line: &TableLine) -> bool {
+fn begins_order(line: &TableLine) -> bool
+    ensures { result ≡ stated_start line.now }
+{
     matches!(line, TableLine::OrderStart { .. })
 }
 
@@ -458,7 +524,9 @@ fn begins_with_order_start(line: &Line) -> bool
 }
 
 // Whether a line ends the category.
-fn ends_category(line: &TableLine) -> bool {
+fn ends_category(line: &TableLine) -> bool
+    ensures { result ≡ is_end line.now }
+{
     matches!(line, TableLine::EndCategory)
 }
 
@@ -478,7 +546,9 @@ fn without_weights(line: TableLine) -> TableLine
 }
 
 // The table of a builder that has taken all lines, also where they end no order or no category, or give no rules.
-fn ended_table(mut builder: TableBuilder) -> Result<Option<Table>, AllocError> {
+fn ended_table(mut builder: TableBuilder) -> Result<Option<Table>, AllocError>
+    ensures { IfOk result (λ ended. IfSome ended (λ table. collation table ≡ table_of (ended_by builder))) }
+{
     if end_builder(&mut builder)? {
         return Ok(Some(Table::built(builder)));
     }
@@ -488,25 +558,25 @@ fn ended_table(mut builder: TableBuilder) -> Result<Option<Table>, AllocError> {
 
 // Ends a builder, and answers whether it ended: an order is closed that is open, and rules are given where there are none.
 fn end_builder(builder: &mut TableBuilder) -> Result<bool, AllocError>
-    ensures { IfOk result (λ ended. ended ≡ true → IsWellFormed (table_of builder.new)) }
+    ensures well_formed { IfOk result (λ ended. ended ≡ true → IsWellFormed (table_of builder.new)) }
+    ensures ended { IfOk result (λ ended. ended ≡ true → builder.new ≡ ended_by builder.old) }
 {
     if end_category(builder)? {
         return Ok(true);
     }
-    let _ = builder.take(
-        0,
-        TableLine::OrderStart {
-            section: None,
-            rules: None,
-        },
-    );
-    let _ = builder.take(0, TableLine::OrderEnd);
+    let start = TableLine::OrderStart {
+        section: None,
+        rules: None,
+    };
+    take_own(builder, start)?;
+    take_own(builder, TableLine::OrderEnd)?;
     end_category(builder)
 }
 
 // Ends the category of a builder, and answers whether it ended.
 fn end_category(builder: &mut TableBuilder) -> Result<bool, AllocError>
-    ensures { IfOk result (λ ended. ended ≡ true → IsWellFormed (table_of builder.new)) }
+    ensures well_formed { IfOk result (λ ended. ended ≡ true → IsWellFormed (table_of builder.new)) }
+    ensures ended { IfOk result (IsEnded builder.old builder.new) }
 {
     match builder.take(0, TableLine::EndCategory) {
         Ok(ended) => Ok(ended),
@@ -517,5 +587,16 @@ fn end_category(builder: &mut TableBuilder) -> Result<bool, AllocError>
             },
         ) => Err(AllocError),
         Err(_) => Ok(false),
+    }
+}
+
+// Puts a line to a builder that is none of the text, and that it can't refuse.
+fn take_own(builder: &mut TableBuilder, line: TableLine) -> Result<(), AllocError>
+    requires { IsProperTableLine line }
+    ensures { OnOk result (builder.new ≡ state_with builder.old 0 line) }
+{
+    match builder.take(0, line) {
+        Ok(_) => Ok(()),
+        Err(_) => Err(AllocError),
     }
 }

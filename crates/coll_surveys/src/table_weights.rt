@@ -3,18 +3,21 @@
 //! These are the faults that a line may have beside its own: it gives weights to a collating symbol, or more than there are levels, or a
 //! weight names what isn't declared or has no entry.
 
-ghost use Rattle.std.specs.Prelude.{◌≡◌, chars, IfOk, OnOk, Some};
+ghost use Rattle.std.specs.Prelude.{◌≡◌, chars, IfOk, Ok, OnOk, Some};
 ghost use Rattle.coll_syntax.specs.declared.identifiers.Id.TheVariants.{Named};
 ghost use Rattle.coll_nodes.specs.Entries.{weight_ids};
 ghost use Rattle.coll_nodes.specs.TableLayout.{collation};
+ghost use Rattle.coll_texts.specs.BuilderStates.{is_end};
 ghost use Rattle.coll_surveys.specs.ToldFaults.{Tells};
-ghost use Rattle.coll_surveys.specs.TableWeights.{cause_faults, given_cause, ids_faults, named_cause, weight_faults, weights_faults};
+ghost use Rattle.coll_surveys.specs.TableSurveys.{ends_table};
+ghost use Rattle.coll_surveys.specs.TableWeights.{TellsWeights, cause_faults, given_cause, ids_faults, named_cause, read_weights};
+ghost use Rattle.coll_surveys.specs.TableWeights.{text_weights, weight_faults, weights_faults};
 
 use crate::collecting::Collected;
 use crate::line_surveys::{Opening, TakesLines, survey_lines};
 use crate::subjects::about_id;
 use coll_advice::{copied_own_id, is_placed};
-use coll_bench::Fault;
+use coll_faults::Fault;
 use coll_lex::{LexFault, Line};
 use coll_syntax::{Id, OrderLine, SyntaxFault, TableLine, Weight, parse_table_line};
 use coll_table::Table;
@@ -38,18 +41,25 @@ pub(crate) fn survey_weights(
     table: &Table,
     ruled: bool,
     told: &mut Collected,
-) -> Result<(), AllocError> {
+) -> Result<(), AllocError>
+    ensures { OnOk result (Tells told.old.told.faults.items told.new.told.faults.items
+        (text_weights (collation table.now) ruled text.now)) }
+{
     let mut survey = WeightSurvey {
         alloc,
         table,
         ruled,
         told,
     };
-    let _ = survey_lines(alloc, text, &mut survey)?;
+    survey.take_all(text)?;
     Ok(())
 }
 
 impl TakesLines for WeightSurvey<'_, '_> {
+    ghost takes = { TellsWeights };
+
+    ghost ends = { ends_table };
+
     fn take(&mut self, line: &Line, _opening: Opening) -> Result<bool, AllocError> {
         match parse_table_line(self.alloc, line) {
             Ok(read) => {
@@ -74,8 +84,26 @@ impl TakesLines for WeightSurvey<'_, '_> {
 }
 
 impl WeightSurvey<'_, '_> {
+    // Takes all lines of a text.
+    fn take_all(&mut self, text: &[u8]) -> Result<(), AllocError>
+        ensures told { OnOk result (Tells self.old.told.now.told.faults.items self.new.told.now.told.faults.items
+            (text_weights (collation self.old.table.now) self.old.ruled text.now)) }
+        ensures reference { OnOk result (self.new.told.ghost_name ≡ self.old.told.ghost_name) }
+    {
+        let alloc = self.alloc;
+        let _ = survey_lines(alloc, text, self)?;
+        Ok(())
+    }
+
     // Takes a line that the grammar accepts, and answers whether it ends the category.
-    fn take_read(&mut self, number: u32, read: &TableLine) -> Result<bool, AllocError> {
+    fn take_read(&mut self, number: u32, read: &TableLine) -> Result<bool, AllocError>
+        ensures told { OnOk result (Tells self.old.told.now.told.faults.items self.new.told.now.told.faults.items
+            (read_weights (collation self.old.table.now) self.old.ruled number (Ok read.now))) }
+        ensures reference { self.new.told.ghost_name ≡ self.old.told.ghost_name }
+        ensures table { self.new.table ≡ self.old.table }
+        ensures ruled { self.new.ruled ≡ self.old.ruled }
+        ensures ended { IfOk result (λ ended. ended ≡ is_end read.now) }
+    {
         match read {
             TableLine::Order(order) => {
                 judge_order(self.alloc, self.table, self.ruled, number, order, self.told)?;

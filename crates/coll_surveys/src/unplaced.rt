@@ -1,5 +1,7 @@
 //! Names that are declared and never placed.
 
+ghost use Rattle.std.specs.Prelude.{◌≡◌};
+
 use crate::collecting::Collected;
 use crate::warnings::Warning;
 use coll_lex::TextBuf;
@@ -73,7 +75,9 @@ impl Declarations {
     }
 
     /// Warns of the names that were declared and that neither have an entry nor stood on an order line.
-    pub fn warn_of_unplaced(&self, table: &Table, told: &mut Collected) -> Result<(), AllocError> {
+    pub fn warn_of_unplaced(&self, table: &Table, told: &mut Collected) -> Result<(), AllocError>
+        ensures { told.new.told.faults ≡ told.old.told.faults }
+    {
         for declared in self.declared.as_slice() {
             if self.is_unplaced(table, &declared.id) {
                 told.warn(declared.unplaced, declared.line, Some(&declared.id))?;
