@@ -47,6 +47,9 @@ OPEN_BLOCK = (
     "end the block by reorder-end, and take it back by :undo if the reply is ok; "
     "the end of the input, Ctrl-D at a terminal, drops it and ends the edit"
 )
+NO_COMMENT = "% begins no comment here; behind a line comment_char % it does"
+KEPT_WEIGHTS = "note: line 1 of the block: <U0041> weighs as <U0061> at the first level, and keeps that: to sort it here, move <U0061> behind <U0063>"
+NO_END = "note: the block before has no reorder-end: it ended where this one begins"
 # Each session: the words behind the program, the steps, what stands on the screen at the end, and the files that are there then.
 SESSIONS = [
     (
@@ -85,6 +88,21 @@ SESSIONS = [
         ],
         ":quit\n",
         "",
+        {},
+    ),
+    (
+        ["edit", "base.txt"],
+        [
+            ("% A behind c", f"refused 29 BadOperand\n29 BadOperand: {NO_COMMENT}\n> "),
+            ("reorder-after c", "block> "),
+            ("A", "block> "),
+            ("reorder-after b", f"ok 1\n{KEPT_WEIGHTS}\n{NO_END}\nblock> "),
+            ("a", "block> "),
+            ("A A;<BASE>;<CAP>;IGNORE", "block> "),
+            ("reorder-end", "ok 2\n> "),
+        ],
+        END,
+        "\n",
         {},
     ),
 ]

@@ -17,7 +17,7 @@ use Rattle.coll_requests.specs.declared.requests.RequestAt.{RequestAt}
 use Rattle.coll_requests.proofs.BlockLemmas.{requests_kept}
 use Rattle.coll_bench.specs.Runs.{RunsFrom}
 use Rattle.coll_bench.specs.Serving.{IsAtStart, Served, ServesLine, block_of, history_of, lexer_of, line_replies}
-use Rattle.coll_bench.specs.declared.faults.RunFault.{RunFault}
+use Rattle.coll_faults.specs.declared.faults.RunFault.{RunFault}
 use Rattle.coll_bench.proofs.RunLemmas.{parsed_later, requests_on}
 use Rattle.coll_bench.proofs.RunSteps.{unread_after}
 use Rattle.coll_edit.specs.EditRuns.{IsUnserved, LeavesSome, RunsAsSession, RunsUnanswered, leaves_one, requests_in}

@@ -10,7 +10,7 @@ use Rattle.coll_requests.specs.declared.requests.Request.TheVariants as kind
 use Rattle.coll_requests.specs.declared.session_lines.Command.{Command}
 use Rattle.coll_requests.specs.declared.session_lines.Command.TheVariants as command
 use Rattle.coll_bench.specs.Serving.{TakesLine, ServesLine, block_of, history_after_all, history_of, lexer_of, replies_to}
-use Rattle.coll_bench.specs.declared.faults.RunFault.{RunFault}
+use Rattle.coll_faults.specs.declared.faults.RunFault.{RunFault}
 use Rattle.coll_bench.specs.declared.serving.RunState.{RunState}
 use Rattle.coll_bench.proofs.ReplyLemmas.{key_leaves, order_leaves}
 use Rattle.coll_bench.specs.Underway.{Underway}

@@ -16,9 +16,9 @@ use Rattle.coll_requests.specs.declared.delta_files.StatementAt.{StatementAt}
 use Rattle.coll_bench.specs.BatchOutcome.{fault_in, judged_at}
 use Rattle.coll_bench.specs.BatchReading.{FailsAs}
 use Rattle.coll_bench.specs.BatchRuns.{ending_of}
-use Rattle.coll_bench.specs.declared.faults.Fault.TheVariants as fault
+use Rattle.coll_faults.specs.declared.faults.Fault.TheVariants as fault
 use Rattle.coll_bench.specs.Serving.{history_of}
-use Rattle.coll_bench.specs.declared.faults.RunFault.{RunFault}
+use Rattle.coll_faults.specs.declared.faults.RunFault.{RunFault}
 use Rattle.coll_edit.specs.EditRuns.{IsUnserved, Leads}
 use Rattle.coll_edit.specs.Editing.{PutsBehind, run_of}
 use Rattle.coll_edit.specs.declared.editors.Editor.{Editor}

@@ -13,9 +13,10 @@ use Rattle.coll_devices.specs.PhysicalLines.{line_feed}
 use Rattle.coll_devices.proofs.WritingLemmas.{AppendsPrefix-before, AppendsPrefix-after}
 use Rattle.coll_nodes.specs.Table.{Collation}
 use Rattle.coll_key.proofs.KeyOrder.{All-first, All-others}
-use Rattle.coll_words.specs.KeyedWords.{KeyedWord, IsKeyed}
-use Rattle.coll_words.specs.Neighbours.{NumberedWord}
-use Rattle.coll_words.specs.NumberedWords.{numbered_from}
+use Rattle.coll_word_lists.specs.KeyedWords.{KeyedWord, IsKeyed}
+use Rattle.coll_word_lists.specs.Neighbours.{NumberedWord}
+use Rattle.coll_word_lists.specs.NumberedWords.{numbered_from}
+use Rattle.coll_word_lists.proofs.NumberedLemmas.{length_numbered}
 use Rattle.coll_edit.specs.ToldLists.{AreKeyedLines, IsToldIn, PutsWord, all_numbered, has_others, marked_lines, numbered_of, told, without_key, without_keys}
 use Rattle.coll_edit.specs.WordLists.{first_line, line_before, line_behind, mark, marked_line, stands_elsewhere, word_line}
 use Rattle.coll_edit.specs.declared.word_lists.ListedWord.{ListedWord}
@@ -282,10 +283,6 @@ numbered_behind n (first ∷ texts) text =
   where
     shifted : (n k : ℕ) → suc n + k ≡ n + suc k
     shifted n k = omega arith
-
-length_numbered : (n : ℕ) (texts : List (List ℕ)) → length (numbered_from n texts) ≡ length texts
-length_numbered n [] = refl
-length_numbered n (text ∷ texts) = omega (arith, length_numbered (suc n) texts)
 
 pub none_numbered : (table : Collation) → NumberedSoFar table [] []
 none_numbered table = record { lines = refl; keyed = All-nil (λ (listed : ListedWord). IsKeyed table listed.word) }

@@ -11,12 +11,11 @@ use Rattle.coll_nodes.specs.WellFormed.{IsWellFormed}
 use Rattle.coll_key.specs.TextOrder.{list_order}
 use Rattle.coll_key.proofs.KeyOrder.{All-first, All-others}
 use Rattle.coll_key.specs.declared.key_faults.KeyFault.{KeyFault}
-use Rattle.coll_words.specs.KeyedWords.{IsKeyed}
-use Rattle.coll_words.specs.Neighbours.{NumberedWord}
-use Rattle.coll_words.specs.NumberedWords.{AreInOrder, line_order}
-use Rattle.coll_words.specs.ReviewSteps.{HaveLines}
-use Rattle.coll_words.proofs.NeighbourLemmas.{lines_still}
-use Rattle.coll_words.proofs.SortedLemmas.{keys_order}
+use Rattle.coll_word_lists.specs.KeyedWords.{IsKeyed}
+use Rattle.coll_word_lists.specs.Neighbours.{NumberedWord}
+use Rattle.coll_word_lists.specs.NumberedWords.{AreInOrder, HaveLines, line_order}
+use Rattle.coll_word_lists.proofs.NumberedLemmas.{lines_still}
+use Rattle.coll_word_lists.proofs.SortedLemmas.{keys_order}
 use Rattle.coll_edit.specs.ToldLists.{AreKeyedLines, AreListedBy, IsListed, IsSortedAnew, IsToldFrom, IsToldIn, ListsAnew, all_numbered, numbered_of, without_key, without_keys}
 use Rattle.coll_edit.specs.declared.word_lists.ListedWord.{ListedWord}
 use Rattle.coll_edit.proofs.ToldLemmas.{all_told, numbered_told}

@@ -7,13 +7,11 @@ use Rattle.coll_devices.specs.Devices.{Sends}
 use Rattle.coll_history.specs.Histories.{History, table_now}
 use Rattle.coll_bench.specs.Replies.{counted_line}
 use Rattle.coll_bench.specs.Serving.{write_failed}
-use Rattle.coll_bench.specs.declared.faults.RunFault.{RunFault}
-use Rattle.coll_words.specs.Neighbours.{NumberedWord}
-use Rattle.coll_words.specs.NumberedWords.{numbered_from}
-use Rattle.coll_words.specs.ReviewSteps.{HaveLines}
-use Rattle.coll_words.specs.WordTexts.{AreTextsOf}
-use Rattle.coll_words.proofs.NeighbourLemmas.{lines_still}
-use Rattle.coll_words.proofs.ReviewLemmas.{numbered_lines}
+use Rattle.coll_faults.specs.declared.faults.RunFault.{RunFault}
+use Rattle.coll_word_lists.specs.Neighbours.{NumberedWord}
+use Rattle.coll_word_lists.specs.NumberedWords.{HaveLines, numbered_from}
+use Rattle.coll_word_lists.specs.WordTexts.{AreTextsOf}
+use Rattle.coll_word_lists.proofs.NumberedLemmas.{lines_still, numbered_lines}
 use Rattle.coll_edit.specs.ToldLists.{AreLinesOf, AreListedBy, IsListed, ListsAnew, ListsWordsOf, all_numbered, list_bytes, numbered_of}
 use Rattle.coll_edit.specs.WordLists.{ListsText, ListsWords, table_before, word_line}
 use Rattle.coll_edit.specs.declared.word_lists.ListedWord.{ListedWord}

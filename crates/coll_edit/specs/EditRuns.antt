@@ -9,7 +9,7 @@ use Rattle.coll_requests.specs.declared.delta_files.StatementAt.{StatementAt}
 use Rattle.coll_requests.specs.declared.requests.RequestAt.{RequestAt}
 use Rattle.coll_bench.specs.Runs.{RunsFrom}
 use Rattle.coll_bench.specs.Serving.{block_of, history_of, lexer_of}
-use Rattle.coll_bench.specs.declared.faults.RunFault.{RunFault}
+use Rattle.coll_faults.specs.declared.faults.RunFault.{RunFault}
 use Rattle.coll_edit.specs.Editing.{PutsBehind, has_answered, is_left, run_of}
 use Rattle.coll_edit.specs.declared.editors.Editor.{Editor}
 

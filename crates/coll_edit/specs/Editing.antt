@@ -15,7 +15,7 @@ use Rattle.coll_requests.specs.declared.delta_files.StatementAt.{StatementAt}
 use Rattle.coll_requests.specs.declared.session_lines.Command.{Command}
 use Rattle.coll_requests.specs.declared.session_lines.Command.TheVariants as command
 use Rattle.coll_bench.specs.Serving.{ServesLine, block_of, history_after_all, history_of, lexer_of, replies_to, write_failed}
-use Rattle.coll_bench.specs.declared.faults.RunFault.{RunFault}
+use Rattle.coll_faults.specs.declared.faults.RunFault.{RunFault}
 use Rattle.coll_bench.specs.declared.serving.RunState.{RunState}
 use Rattle.coll_edit.specs.declared.editors.Editor.{Editor}
 use Rattle.coll_edit.specs.declared.editors.Next.{Next}

@@ -5,7 +5,7 @@ use Rattle.std.specs.declared.num.ParseIntError.{ParseIntError}
 use Rattle.coll_devices.specs.Devices.{Sends}
 use Rattle.coll_syntax.specs.declared.syntax_faults.SyntaxFault.TheVariants.{BadOperand}
 use Rattle.coll_bench.specs.Replies.{told_line}
-use Rattle.coll_bench.specs.declared.faults.Fault.TheVariants as fault
+use Rattle.coll_faults.specs.declared.faults.Fault.TheVariants as fault
 use Rattle.coll_advice.specs.FaultNumbers.{is_fault_number}
 
 -- a number, the name of its fault, and what to do

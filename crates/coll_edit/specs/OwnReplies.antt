@@ -5,7 +5,7 @@ use Rattle.coll_nodes.specs.Table.{Collation}
 use Rattle.coll_history.specs.Histories.{History, table_now}
 use Rattle.coll_bench.specs.BatchOutcome.{is_any_too_long, text_too_long}
 use Rattle.coll_bench.specs.BatchWriting.{starved_key}
-use Rattle.coll_bench.specs.declared.faults.Fault.TheVariants as fault
+use Rattle.coll_faults.specs.declared.faults.Fault.TheVariants as fault
 use Rattle.coll_delta_texts.specs.DeltaText.{delta_text}
 use Rattle.coll_explanations.specs.Explanations.{explanation}
 use Rattle.coll_edit.specs.Help.{SendsHelp}

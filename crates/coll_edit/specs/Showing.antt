@@ -5,8 +5,6 @@ use Rattle.std.specs.List.{flat_map}
 use Rattle.std.specs.Option.{unwrap_or}
 use Rattle.coll_syntax.specs.declared.identifiers.Id.{Id}
 use Rattle.coll_syntax.specs.declared.identifiers.Id.TheVariants.{Char, Named, Undefined}
-use Rattle.coll_syntax.specs.declared.weights.Weight.{Weight}
-use Rattle.coll_syntax.specs.declared.weights.Weight.TheVariants.{Ignore, Own, Names}
 use Rattle.coll_nodes.specs.Beside.{first_of, section_name}
 use Rattle.coll_nodes.specs.OwnNames.{own_name}
 use Rattle.coll_nodes.specs.Placement.{entry_at, place_among}
@@ -14,35 +12,13 @@ use Rattle.coll_nodes.specs.Table.{Collation, entries_of}
 use Rattle.coll_nodes.specs.declared.entries.Entry.{Entry}
 use Rattle.coll_texts.specs.Pieces.{words_line}
 use Rattle.coll_texts.specs.PrintedParts.{id_bytes, symbol_bytes}
+use Rattle.coll_texts.specs.WeighedEntries.{weighed_line}
 use Rattle.coll_table.specs.declared.refusals.Refusal.TheVariants.{NotDeclared, NotPlaced}
 use Rattle.coll_bench.specs.Replies.{told_line}
-use Rattle.coll_bench.specs.declared.faults.Fault.{Fault}
-use Rattle.coll_bench.specs.declared.faults.Fault.TheVariants as fault
+use Rattle.coll_faults.specs.declared.faults.Fault.{Fault}
+use Rattle.coll_faults.specs.declared.faults.Fault.TheVariants as fault
 use Rattle.coll_edit.specs.declared.showing.MarkedLine.{MarkedLine}
 use Rattle.coll_edit.specs.declared.showing.Spot.{Spot}
-
--- Weights.
-
--- a list of identifiers behind a mark: the identifier where there is one, and else all between quotation marks
-abbrev pub names_told : (mark : List ℕ) → List Id → List ℕ
-names_told mark [] = mark ++ codes "\"\""
-names_told mark (only ∷ []) = mark ++ id_bytes only
-names_told mark (first ∷ second ∷ later) = mark ++ (codes "\"" ++ (flat_map id_bytes (first ∷ second ∷ later) ++ codes "\""))
-
--- a weight of the entry of this identifier behind a mark: `IGNORE`, the identifier itself for its own, or those of a list
-abbrev pub weight_told : (mark : List ℕ) → Id → Weight → List ℕ
-weight_told mark owner Ignore = mark ++ codes "IGNORE"
-weight_told mark owner Own = mark ++ id_bytes owner
-weight_told mark owner (Names ids) = names_told mark ids
-
--- the weights of the entry of this identifier: a space before the first, and a semicolon before each other; a symbol has none
-abbrev pub weights_told : Id → List Weight → List ℕ
-weights_told owner [] = []
-weights_told owner (weight ∷ weights) = weight_told (codes " ") owner weight ++ flat_map (weight_told (codes ";") owner) weights
-
--- the identifier of an entry with all its weights written out, and the line's end
-abbrev pub weighed_line : Entry → List ℕ
-weighed_line entry = id_bytes entry.id ++ (weights_told entry.id entry.weights ++ codes "\n")
 
 -- Places.
 

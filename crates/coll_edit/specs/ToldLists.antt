@@ -5,11 +5,10 @@ use Rattle.coll_nodes.specs.Table.{Collation}
 use Rattle.coll_nodes.specs.WellFormed.{IsWellFormed}
 use Rattle.coll_history.specs.Histories.{History, table_now}
 use Rattle.coll_bench.specs.Replies.{counted_line}
-use Rattle.coll_words.specs.KeyedWords.{IsKeyed}
-use Rattle.coll_words.specs.Neighbours.{NumberedWord}
-use Rattle.coll_words.specs.NumberedWords.{AreInOrder, line_order, numbered_from}
-use Rattle.coll_words.specs.ReviewSteps.{HaveLines}
-use Rattle.coll_words.specs.Words.{words_of}
+use Rattle.coll_word_lists.specs.KeyedWords.{IsKeyed}
+use Rattle.coll_word_lists.specs.Neighbours.{NumberedWord}
+use Rattle.coll_word_lists.specs.NumberedWords.{AreInOrder, HaveLines, line_order, numbered_from}
+use Rattle.coll_word_lists.specs.Words.{words_of}
 use Rattle.coll_edit.specs.WordLists.{first_line, line_before, line_behind, marked_line, table_before}
 use Rattle.coll_edit.specs.declared.word_lists.ListedWord.{ListedWord}
 

@@ -10,12 +10,12 @@ use Rattle.coll_nodes.specs.Table.{Collation}
 use Rattle.coll_history.specs.Histories.{History, stepped_back, table_now}
 use Rattle.coll_bench.specs.Replies.{counted_line}
 use Rattle.coll_bench.specs.Serving.{write_failed}
-use Rattle.coll_bench.specs.declared.faults.Fault.TheVariants as fault
-use Rattle.coll_bench.specs.declared.faults.RunFault.{RunFault}
-use Rattle.coll_words.specs.Neighbours.{NumberedWord}
-use Rattle.coll_words.specs.NumberedWords.{AreInOrder, numbered_from}
-use Rattle.coll_words.specs.WordReading.{ReadingFails}
-use Rattle.coll_words.specs.Words.{words_of, written_word}
+use Rattle.coll_faults.specs.declared.faults.Fault.TheVariants as fault
+use Rattle.coll_faults.specs.declared.faults.RunFault.{RunFault}
+use Rattle.coll_word_lists.specs.Neighbours.{NumberedWord}
+use Rattle.coll_word_lists.specs.NumberedWords.{AreInOrder, numbered_from}
+use Rattle.coll_word_lists.specs.WordReading.{ReadingFails}
+use Rattle.coll_word_lists.specs.Words.{words_of, written_word}
 
 -- the table before the last of the statements that remain; where none does, the table now
 abbrev pub table_before : History → Collation

@@ -1,7 +1,8 @@
 //! Where an edit stands between two lines, and how it goes on by one.
 //!
-//! An `Editor` is a session, and beside it whether a line of `edit` was answered. The session takes each line; the request that it
-//! completes is answered by the session, or, where that refuses it and the line is one of `edit`, by that line.
+//! An `Editor` is a session, and beside it what was typed and whether a line of `edit` was answered. Delta files put their statements
+//! before the first line. The session takes each line; the request that it completes is answered by the session, or, where that refuses
+//! it and the line is one of `edit`, by that line.
 
 ghost use Rattle.std.specs.Prelude.{◌≡◌, ◌≢◌, ◌+◌, ◌<◌, ℕ, Bool, [], chars, true, IfErr, IfOk, IfSome, List, Ok, OnOk, Option, Some, option_to_list};
 ghost use Rattle.coll_devices.specs.Devices.{Sends};
@@ -21,7 +22,7 @@ ghost use Rattle.coll_lex.specs.declared.faults.LexFault.TheVariants.{OutOfMemor
 ghost use Rattle.coll_bench.specs.BatchOutcome.{after_delta, fault_in, judged_at, statements_of};
 ghost use Rattle.coll_bench.specs.BatchReading.{DeltaFails, FailsAs};
 ghost use Rattle.coll_bench.specs.BatchRuns.{ending_of};
-ghost use Rattle.coll_bench.specs.declared.faults.Fault.TheVariants as lex_fault;
+ghost use Rattle.coll_faults.specs.declared.faults.Fault.TheVariants as lex_fault;
 ghost use Rattle.coll_edit.specs.Editing.{AnswersRequest, EditsLine, IsLeft, IsLook, PutsBehind, has_answered as answered_by, run_of};
 ghost use Rattle.coll_delta_texts.specs.DeltaText.{delta_text};
 ghost use Rattle.coll_explanations.specs.Explaining.{Explains};
@@ -33,6 +34,7 @@ use crate::copies::copied_statement;
 use crate::devices::OpensFiles;
 use crate::help::{write_help, write_number_help};
 use crate::messages::{Hint, Origin, end_prompt, hint_for, prompt, tell_refusal};
+use crate::notes::{Note, note_on, tell_note, tell_unended};
 use crate::own_lines::{OwnLine, own_line};
 use crate::replies::{flush, write_count, write_refusal};
 use crate::showing::write_shown;
@@ -255,9 +257,12 @@ impl Editor {
         ensures unanswered { answered_by self.new ≡ answered_by self.old }
     {
         let found = self.found_in(&request);
+        let note = self.note_in(&request);
         let line = refused_line(&request);
         let answered = self.run.answer_if(self.alloc, request, output);
         self.tell_found(output, messages, &found, line);
+        self.tell_noted(output, messages, &note);
+        drop(note);
         drop(found);
         answered
     }
@@ -280,7 +285,35 @@ impl Editor {
         }
     }
 
-    // Tells the fault of the line that was taken where no reply tells it there.
+    // What is to be noted of the statement of a request, if it is accepted.
+    fn note_in(&self, request: &Option<RequestAt>) -> Option<Note> {
+        match request {
+            Some(
+                RequestAt {
+                    request: Request::Statement(statement),
+                    ..
+                },
+            ) => note_on(self.run.session().table(), statement),
+            _ => None,
+        }
+    }
+
+    // Tells what was noted of a statement, if it was accepted.
+    fn tell_noted<W: Sink, M: Sink>(
+        &self,
+        output: &Watched<W>,
+        messages: &mut M,
+        note: &Option<Note>,
+    ) {
+        if output.refusal().is_some() {
+            return;
+        }
+        if let Some(note) = note {
+            tell_note(messages, self.run.session().table(), note);
+        }
+    }
+
+    // Tells the fault of the line that was taken where no reply tells it there, and that it ended a block which has no `reorder-end`.
     fn tell_line<M: Sink>(&mut self, was_open: bool, completes: bool, messages: &mut M)
         ensures run { run_of self.new ≡ run_of self.old }
         ensures answered { answered_by self.new ≡ answered_by self.old }
@@ -290,6 +323,9 @@ impl Editor {
             let hint = hint_for(self.typed.wish(), fault.number);
             let table = self.run.session().table();
             tell_refusal(messages, table, fault.number, origin_in(fault), hint);
+        }
+        if was_open && self.typed.opens() {
+            tell_unended(messages);
         }
     }
 

@@ -8,10 +8,10 @@
 //! - `own_lines`: the lines that stand beside those of a session (`OwnLines`);
 //! - `watched`: an output that knows which refusal its last reply told (`Watching`);
 //! - `devices`: files that are opened by their names;
-//! - `replies`, `showing`, `weights`, `statements`, `word_lists` with `word_keys`, `help`: what these lines are answered (`Showing`,
+//! - `replies`, `showing`, `statements`, `word_lists` with `word_keys`, `help`: what these lines are answered (`Showing`,
 //!   `WordLists`, `ToldLists`, `WordKeys`, `Help`, and `OwnReplies` for all that ask for nothing but the table and the history);
 //! - `typed_lines`: what a typed line is by itself, so that its fault is told where it is typed;
-//! - `messages`: prompts, and the sentence behind a refusal, for standard error;
+//! - `messages`: prompts, and the sentence behind a refusal, for standard error; `notes`: what is told there of an accepted statement;
 //! - `copies`: copies of statements, which delta files put before the first line;
 //! - `editors`: where an edit stands between two lines, and how it goes on by one (`Editing`);
 //! - `runs`: the run of a text (`EditRuns`).
@@ -22,6 +22,7 @@ mod devices;
 mod editors;
 mod help;
 mod messages;
+mod notes;
 mod own_lines;
 mod replies;
 mod runs;
@@ -29,7 +30,6 @@ mod showing;
 mod statements;
 mod typed_lines;
 mod watched;
-mod weights;
 mod word_keys;
 mod word_lists;
 

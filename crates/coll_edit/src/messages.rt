@@ -14,6 +14,10 @@ use coll_texts::{Piece, write_pieces};
 // The numbers of faults of which more is told than their sentence.
 const UNKNOWN_STATEMENT: u8 = 20;
 
+const EXTRA_OPERAND: u8 = 22;
+
+const BAD_OPERAND: u8 = 29;
+
 const NOT_DECLARED: u8 = 34;
 
 const TARGET_NOT_PLACED: u8 = 50;
@@ -65,6 +69,8 @@ pub(crate) enum Hint {
     Meant(&'static str),
     /// The end was asked for in an open block.
     OpenBlock,
+    /// `%` stands where a comment does in many sources.
+    Comment,
     /// The statement with this number needs the one that was to be withdrawn.
     NeededBy(u32),
 }
@@ -77,6 +83,8 @@ pub(crate) fn hint_for(wish: Wish, number: u8) -> Hint {
         Wish::End => meant(":quit", number),
         Wish::EndHere if number == BLOCK_OPEN => Hint::OpenBlock,
         Wish::EndHere => Hint::Nothing,
+        Wish::Comment if is_of_line(number) => Hint::Comment,
+        Wish::Comment => Hint::Nothing,
     }
 }
 
@@ -86,6 +94,14 @@ fn meant(command: &'static str, number: u8) -> Hint {
         return Hint::Meant(command);
     }
     Hint::Nothing
+}
+
+// Whether a refusal may come from a line that was meant as a comment.
+fn is_of_line(number: u8) -> bool {
+    matches!(
+        number,
+        UNKNOWN_STATEMENT | EXTRA_OPERAND | BAD_OPERAND | NOT_PLACED | NO_WEIGHTS
+    )
 }
 
 /// Tells what a refusal says, by its number: where it comes from, what it is about, and what to do.
@@ -124,6 +140,7 @@ fn write_told<M: Sink>(
         Hint::Nothing => write_advised(messages, table, number, origin),
         Hint::Meant(command) => write_meant(messages, command),
         Hint::OpenBlock => write_pieces(messages, &[Piece::Bytes(OPEN_BLOCK)]),
+        Hint::Comment => write_pieces(messages, &[Piece::Bytes(NO_COMMENT)]),
         Hint::NeededBy(number) => write_needed(messages, number),
     }
 }
@@ -131,6 +148,9 @@ fn write_told<M: Sink>(
 // How an open block is left by whoever asks for the end there.
 const OPEN_BLOCK: &[u8] =
     b": end the block by reorder-end, and take it back by :undo if the reply is ok; the end of the input, Ctrl-D at a terminal, drops it and ends the edit\n";
+
+// What a line says that was meant as a comment.
+const NO_COMMENT: &[u8] = b": % begins no comment here; behind a line comment_char % it does\n";
 
 // Writes which command is meant.
 fn write_meant<M: Sink>(messages: &mut M, command: &str) -> Result<(), WriteStop> {

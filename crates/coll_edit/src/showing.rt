@@ -17,13 +17,12 @@ ghost use Rattle.coll_edit.specs.Showing.{around, entry_in, entry_told, line_if,
 ghost use Rattle.coll_edit.specs.Showing.{absent_told, rank_line, shown, spot_place, IsEntryIn, IsSpot};
 
 use crate::replies::{flush, write_refusal};
-use crate::weights::write_weighed;
 use coll_bench::Fault;
 use coll_devices::{Sink, WriteStop};
 use coll_nodes::{Entry, WalkItem};
 use coll_syntax::Id;
 use coll_table::{EntryNumbers, Refusal, Table};
-use coll_texts::{Piece, write_pieces};
+use coll_texts::{Piece, write_pieces, write_weighed};
 
 // A place in a table: that of an entry, or the one behind all entries.
 #[derive(Clone, Copy)]

@@ -3,7 +3,7 @@
 //! A session answers an open block where it ends, with the first fault that spoiled it. A person is told of each line at fault once,
 //! and at once. So each line is read here as well, by a lexer of its own, which reads what the session's does. What is found is for
 //! standard error alone, and changes no reply; where memory is refused, nothing is found. A word that other programs take for `:help`
-//! or `:quit` is found here too.
+//! or `:quit` is found here too, and `%`, with which comments of many sources begin.
 
 ghost use Rattle.coll_lex.specs.Names.{AreTokens};
 
@@ -15,8 +15,10 @@ use std::alloc::{AllocError, Global};
 // What a line is to a block.
 #[derive(Clone, Copy)]
 enum TypedLine {
-    // It has no token, or is `reorder-after` or `reorder-end`, accepted.
+    // It has no token, or is `reorder-end`, accepted.
     Nothing,
+    // `reorder-after`, accepted.
+    Opening,
     // A command, which a block lets pass.
     Command,
     // An order line.
@@ -36,6 +38,8 @@ pub(crate) enum Wish {
     End,
     /// The end, by `:quit`, which no open block takes.
     EndHere,
+    /// A comment, by `%`, where that begins none.
+    Comment,
 }
 
 /// A fault of a line that no reply tells where the line is typed.
@@ -92,6 +96,11 @@ impl TypedLines {
         self.wish
     }
 
+    /// Whether the last line begins a block.
+    pub fn opens(&self) -> bool {
+        matches!(&self.last, TypedLine::Opening)
+    }
+
     /// Whether the first fault that was told of the block has this number.
     pub fn has_told(&self, number: u8) -> bool {
         self.first == Some(number)
@@ -110,7 +119,7 @@ impl TypedLines {
     // The fault of a line within a block. The first order line too many spoils a block that no other line has spoiled.
     fn untold_within(&mut self, line: TypedLine) -> Option<LineFault> {
         let number = match line {
-            TypedLine::Nothing | TypedLine::Command => return None,
+            TypedLine::Nothing | TypedLine::Opening | TypedLine::Command => return None,
             TypedLine::Order if self.first.is_some() || self.lines < MOST_BLOCK_LINES => None,
             TypedLine::Order => Some(SyntaxFault::BlockTooLong.number()),
             TypedLine::Fault(number) => Some(number),
@@ -172,16 +181,21 @@ fn is_command(line: &Line) -> bool {
 fn accepted(line: &DeltaLine) -> TypedLine {
     match line {
         DeltaLine::Order(_) => TypedLine::Order,
-        DeltaLine::ReorderAfter(_) | DeltaLine::ReorderEnd => TypedLine::Nothing,
+        DeltaLine::ReorderAfter(_) => TypedLine::Opening,
+        DeltaLine::ReorderEnd => TypedLine::Nothing,
         _ => TypedLine::Fault(RequestFault::BlockOpen.number()),
     }
 }
 
 // What a line asks for that is asked for otherwise.
 fn wish_of(line: &Line) -> Wish {
-    match line.tokens.get().split_first() {
-        Some((word, rest)) => wish_by(word, rest.is_empty()),
-        None => Wish::Nothing,
+    let tokens = line.tokens.get();
+    let Some((word, rest)) = tokens.split_first() else {
+        return Wish::Nothing;
+    };
+    match wish_by(word, rest.is_empty()) {
+        Wish::Nothing if tokens.iter().any(begins_comment) => Wish::Comment,
+        wish => wish,
     }
 }
 
@@ -197,4 +211,12 @@ fn wish_by(word: &Token, alone: bool) -> Wish {
         return Wish::End;
     }
     Wish::Nothing
+}
+
+// Whether a word begins as a comment does in many sources.
+fn begins_comment(word: &Token) -> bool {
+    match word {
+        Token::Word(word) => word.get().starts_with('%'),
+        _ => false,
+    }
 }

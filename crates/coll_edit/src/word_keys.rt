@@ -3,18 +3,20 @@
 //! The ranks of a whole table are made in one pass over its entries, and then serve each word at once. Where the words have few
 //! characters beside the entries, these only have to have their places, which a session mostly keeps, and each word looks up what it
 //! asks for and no more. How many are few may change: the words are the same.
+//!
+//! Keys by ranks are the plain form; `ListsWords` is the clause of both, and checkers/listed_words.py compares them.
 
 ghost use Rattle.std.specs.Prelude.{◌≡◌, ◌≢◌, chars, true, IfErr, IfOk, IfSome};
 ghost use Rattle.coll_nodes.specs.NodeNumbers.{AreNumbersOf};
 ghost use Rattle.coll_nodes.specs.TableLayout.{collation};
 ghost use Rattle.coll_key.specs.KeyLimits.{is_too_long};
 ghost use Rattle.coll_key.specs.declared.key_faults.KeyFault.TheVariants.{OutOfMemory};
-ghost use Rattle.coll_words.specs.KeyedWords.{IsKeyed};
+ghost use Rattle.coll_word_lists.specs.KeyedWords.{IsKeyed};
 ghost use Rattle.coll_edit.specs.WordKeys.{Serves};
 
 use coll_key::{EntryNumbers, KeyFault, Ranks};
 use coll_table::Table;
-use coll_words::Word;
+use coll_word_lists::Word;
 use std::alloc::{AllocError, Global};
 
 // For so many entries of the table words may have one character: it is looked up in some half of the time that their ranks take.

@@ -14,7 +14,7 @@ ghost use Rattle.coll_nodes.specs.Table.{Collation};
 ghost use Rattle.coll_nodes.specs.TableLayout.{collation};
 ghost use Rattle.coll_history.specs.Histories.{table_now};
 ghost use Rattle.coll_bench.specs.Serving.{block_of, history_of, lexer_of, write_failed as failed_write};
-ghost use Rattle.coll_words.specs.NumberedWords.{line_order, numbered_from};
+ghost use Rattle.coll_word_lists.specs.NumberedWords.{line_order, numbered_from};
 ghost use Rattle.coll_edit.specs.ToldLists.{AreKeyedLines, AreLinesOf, AreListedBy, IsSortedAnew, IsToldFrom, ListsAnew, ListsWordsOf, PutsWord};
 ghost use Rattle.coll_edit.specs.ToldLists.{all_numbered, has_others, list_bytes, marked_lines, told, without_keys};
 ghost use Rattle.coll_edit.specs.WordKeys.{Serves};
@@ -28,7 +28,7 @@ use coll_key::KeyFault;
 use coll_lex::{LexFault, TextBuf};
 use coll_table::Table;
 use coll_texts::{Piece, write_pieces};
-use coll_words::{Word, read_texts};
+use coll_word_lists::{Word, read_texts};
 use std::alloc::{AllocError, Global};
 
 // A word of a list.

@@ -3,7 +3,7 @@ use Rattle.std.proofs.Common.{◌≡◌, ◌++◌, codes, subst, ◌∙◌, ap, 
 use Rattle.std.specs.Prelude.{decimal}
 use Rattle.coll_devices.specs.Devices.{AppendsPrefix, Sends}
 use Rattle.coll_devices.proofs.WritingLemmas.{AppendsPrefix-before, Sends-after}
-use Rattle.coll_edit.specs.Showing.{weighed_line}
+use Rattle.coll_texts.specs.WeighedEntries.{weighed_line}
 use Rattle.coll_edit.proofs.showing.write_ranked.Goals as goal
 
 head : (mark : List ℕ) (rank : ℕ) (rest : List ℕ) → (mark ++ (decimal rank ++ codes " ")) ++ rest ≡ mark ++ (decimal rank ++ (codes " " ++ rest))

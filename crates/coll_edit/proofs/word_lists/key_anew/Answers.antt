@@ -1,6 +1,6 @@
 -- Each word in turn gets its key.
 use Rattle.std.proofs.Common.{arith, ap, sym, subst, ◌∙◌}
-use Rattle.coll_words.specs.KeyedWords.{KeyedWord, IsKeyed}
+use Rattle.coll_word_lists.specs.KeyedWords.{KeyedWord, IsKeyed}
 use Rattle.coll_nodes.specs.TableLayout.{collation}
 use Rattle.coll_edit.proofs.ToldLemmas.{keyed_more}
 use Rattle.coll_edit.proofs.word_lists.key_anew.Goals as goal

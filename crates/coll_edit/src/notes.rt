@@ -1,0 +1,104 @@
+//! What a person is told of a statement that is accepted, and does less than it seems to.
+//!
+//! Nothing of it is a fault, and no reply tells it: it goes to standard error behind the reply, and changes none. What weighs as another
+//! at the first level keeps its place there wherever its own line goes, so to move it does next to nothing: the other is to be moved, or
+//! new weights are to be written. And a block that another one ends has no `reorder-end`, which may have been forgotten.
+
+use coll_devices::Sink;
+use coll_syntax::{Id, OrderLine, Statement, Weight};
+use coll_table::Table;
+use coll_texts::{Piece, write_pieces};
+
+/// A line of a block that moves an entry and gives it no weights, while that weighs as another at the first level.
+#[derive(Drop)]
+pub(crate) struct Note {
+    // What is moved.
+    id: Id,
+    // Its line in the block, from 1.
+    line: usize,
+}
+
+/// The first such line of a statement, if it has one, over the table as it stands before; none where memory is refused.
+pub(crate) fn note_on(table: &Table, statement: &Statement) -> Option<Note> {
+    let Statement::Block { lines, .. } = statement else {
+        return None;
+    };
+    let place = lines
+        .get()
+        .iter()
+        .position(|line| keeps_weights(table, line))?;
+    let moved = lines.get().get(place)?;
+    match moved.id.clone() {
+        Ok(id) => Some(Note {
+            id,
+            line: place.saturating_add(1),
+        }),
+        Err(_) => None,
+    }
+}
+
+// Whether a line moves what weighs as another at the first level, and gives it no weights.
+fn keeps_weights(table: &Table, line: &OrderLine) -> bool {
+    line.weights.is_none() && first_weight(table, &line.id).is_some()
+}
+
+// What an entry weighs as at the first level, if it isn't itself: the first of these, where they are several.
+fn first_weight<'a>(table: &'a Table, id: &Id) -> Option<&'a Id> {
+    match table.entry(id)?.weights().first()? {
+        Weight::Names(ids) => ids.get().first(),
+        Weight::Own | Weight::Ignore => None,
+    }
+}
+
+/// Tells that a statement which was accepted leaves its weights to what it moves, unless what stands before that now weighs as the same.
+pub(crate) fn tell_note<'a, M: Sink>(messages: &mut M, table: &'a Table, note: &'a Note) {
+    let Some(other) = first_weight(table, &note.id) else {
+        return;
+    };
+    let Some(before) = weight_before(table, &note.id) else {
+        return;
+    };
+    if other.is_same(before) {
+        return;
+    }
+    write_note(messages, note, other, before);
+}
+
+// What the entry before another weighs as at the first level: another one, or itself.
+fn weight_before<'a>(table: &'a Table, id: &Id) -> Option<&'a Id> {
+    let before = table.entry_before(id)?;
+    match first_weight(table, before.id()) {
+        Some(other) => Some(other),
+        None => Some(before.id()),
+    }
+}
+
+// Writes what is to be moved in place of what was, and behind what.
+fn write_note<'a, M: Sink>(messages: &mut M, note: &'a Note, other: &'a Id, before: &'a Id) {
+    let _ = write_pieces(
+        messages,
+        &[
+            Piece::Bytes(b"note: line "),
+            Piece::Number(note.line as u64),
+            Piece::Bytes(b" of the block: "),
+            Piece::Id(&note.id),
+            Piece::Bytes(b" weighs as "),
+            Piece::Id(other),
+            Piece::Bytes(b" at the first level, and keeps that: to sort it here, move "),
+            Piece::Id(other),
+            Piece::Bytes(b" behind "),
+            Piece::Id(before),
+            Piece::Bytes(b"\n"),
+        ],
+    );
+    let _ = messages.flush();
+}
+
+/// Tells that a block ended without `reorder-end`, since another one begins.
+pub(crate) fn tell_unended<M: Sink>(messages: &mut M) {
+    let _ = write_pieces(messages, &[Piece::Bytes(UNENDED)]);
+    let _ = messages.flush();
+}
+
+const UNENDED: &[u8] =
+    b"note: the block before has no reorder-end: it ended where this one begins\n";
