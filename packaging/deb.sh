@@ -102,6 +102,7 @@ as_debian_has_it() {
     changelog | gzip -9n > "$pages/changelog.Debian.gz"
     gzip -9n < "$pages/CHANGELOG.md" > "$pages/changelog.gz"
     rm "$pages/CHANGELOG.md" "$pages"/LICENSE-*
+    sed -i 's/](CHANGELOG\.md)/](changelog.gz)/; s/](LICENSE-[A-Z]*)/](copyright)/g' "$pages/README.md" "$pages/CONTRIBUTING.md"
     [ ! -d "$tree/usr/share/man" ] || find "$tree/usr/share/man" -type f -exec gzip -9n {} +
     [ ! -d "$tree/usr/share/zsh/site-functions" ] || mv "$tree/usr/share/zsh/site-functions" "$tree/usr/share/zsh/vendor-completions"
     mkdir -p "$tree/usr/share/lintian/overrides"
