@@ -73,10 +73,21 @@ def wanted(program):
     return {**files, "bin/collbench": content(program)}
 
 
+def linked(data):
+    """A page whose links lead to the changelog and the licences as a package has them."""
+    links = {b"](CHANGELOG.md)": b"](changelog.gz)", **{f"]({name})".encode(): b"](copyright)" for name in LICENCES}}
+    for link, other in links.items():
+        data = data.replace(link, other)
+    return data
+
+
 def as_debian_has_it(files):
-    """The same in a package: man pages are compressed, completions of zsh stand elsewhere, and so do the changelog and the licences."""
+    """The same in a package: man pages are compressed, completions of zsh stand elsewhere, and so do the changelog and the licences, to
+    which the pages at the top lead there."""
     moved = {}
     for name, data in files.items():
+        if name in (f"{PAGES}/README.md", f"{PAGES}/CONTRIBUTING.md"):
+            data = linked(data)
         place = name.replace("share/zsh/site-functions", "share/zsh/vendor-completions")
         place = place.replace(f"{PAGES}/CHANGELOG.md", f"{PAGES}/changelog.gz")
         if place.startswith("share/man/"):
