@@ -3,11 +3,12 @@
 
 usage: checkers/try_edits.py [CRATE..]
 
-All crates are meant where none is named. First the crates are proved, over what earlier checks kept. Then as many edits are tried side
-by side as there are cores and memory, each in a scratch copy of the repository, where checks begin with what those here kept: the modules
-that it changes are checked alone, and the whole crate where these are still proved. What was refused is remembered outside the
-repository, in ~/.cache/collbench/edits (or under XDG_CACHE_HOME), by a hash of the edit, its crate and those below, so a run may be broken
-off and go on later. The status is 1 where an edit was not refused.
+All crates are meant where none is named. First the crates are proved, over what earlier checks kept. Then as many checks run side by
+side as there are cores and memory, each in a scratch copy of the repository, where it begins with what those here kept. Edits of a crate
+that change different functions are tried together, by one check of the modules that they change. What that does not show as refused is
+tried by itself, and over the whole crate where its modules are still proved. What was refused is remembered outside the repository, in
+~/.cache/collbench/edits (or under XDG_CACHE_HOME), by a hash of the edit, its crate and those below, so a run may be broken off and go on
+later. The status is 1 where an edit was not refused.
 """
 
 import glob
@@ -22,16 +23,19 @@ import tempfile
 import threading
 import time
 
+from edited_functions import BY_NAME, ERROR, batches, functions_of, verdicts
 from edits import PARTS, BadEdit, applied, edits_of
 from run_program import ROOT
 from scratch_copies import copied, lanes, libraries
 
 MEMORY = os.path.join(os.environ.get("XDG_CACHE_HOME") or os.path.expanduser("~/.cache"), "collbench", "edits")
-# An error in a text that the prover could not read, as it writes one: such an edit shows nothing of a contract.
-ERROR = re.compile(r"^(?:\./)?(\S+?):\d+:\d+: error: (`[^`]*`: )?(.*)", re.M)
+# The most edits that are tried together.
+MOST = 24
+# An error in a text that the prover could not read: such an edit shows nothing of a contract.
 UNREAD = re.compile(r"is not in scope|has no field|is no name|operand is missing|expected the end|cannot continue")
-# An error of a proof file that names what the edit took away: where there is no other, the edit says little of the contract.
-BY_NAME = re.compile(r"has no field|is not in scope|has no `|was not admitted|can be named from here")
+# How the prover refuses an edit.
+REFUSED = "refused"
+REFUSED_BY_NAME = "refused, but only since a proof names what it takes away: change a value"
 
 
 def sums(crates):
@@ -71,41 +75,83 @@ def module_of(crate, path):
     return "::".join([crate, *found[1].split("/")]) if found and found[1] not in ("lib", "main") else None
 
 
-def refuses(folder, changed, only):
-    """Checks the crate in a folder, or some of its modules. Returns how something is not proved, or None.
+def checked(folder, changed, only):
+    """Checks the crate in a folder, or some of its modules. Returns the status, and what the check told.
 
-    What was not judged is a BadEdit.
+    A file that was changed and cannot be read is a BadEdit.
     """
     words = ["rt", "check", "--jobs", "1", *[word for module in only for word in ("--only", module)]]
     # In a session of its own, so that an interrupt lets it come to its end.
     how = {"stdin": subprocess.DEVNULL, "stdout": subprocess.PIPE, "stderr": subprocess.STDOUT, "start_new_session": True}
     ran = subprocess.run(words, cwd=folder, encoding="utf-8", errors="replace", check=False, **how)
-    for file, name, text in ERROR.findall(ran.stdout):
+    for file, _, name, text in ERROR.findall(ran.stdout):
         if (file in changed or file.startswith(("src/", "specs/"))) and (not name or UNREAD.search(re.sub(r"`[^`]*`", "", text))):
             raise BadEdit(f"the prover cannot read it, so no contract was tried: {file}: {text[:200]}")
-    if ran.returncode == 0:
+    if ran.returncode not in (0, 1) or not re.search(r"^only=\d+ proved=\d+$" if only else r"^logic=", ran.stdout, re.M):
+        raise BadEdit(f"it did not come to a verdict: {ran.stdout[-400:]}")
+    return ran.returncode, ran.stdout
+
+
+def refuses(folder, changed, only):
+    """Checks the crate in a folder, or some of its modules. Returns how something is not proved, or None."""
+    status, told = checked(folder, changed, only)
+    if status == 0:
         return None
-    if ran.returncode == 1 and re.search(r"^only=\d+ proved=\d+$" if only else r"^logic=not-proved", ran.stdout, re.M):
-        told = [not file.startswith("proofs/") or not BY_NAME.search(text) for file, _, text in ERROR.findall(ran.stdout)]
-        is_by_name = told and not any(told) and not re.search(r"^note: \S+:\d+:\d+: it is not proved", ran.stdout, re.M)
-        return "refused, but only since a proof names what it takes away: change a value" if is_by_name else "refused"
-    raise BadEdit(f"it did not come to a verdict: {ran.stdout[-400:]}")
+    others = [not file.startswith("proofs/") or not BY_NAME.search(text) for file, _, _, text in ERROR.findall(told)]
+    is_by_name = others and not any(others) and not re.search(r"^note: \S+:\d+:\d+: it is not proved", told, re.M)
+    return REFUSED_BY_NAME if is_by_name else REFUSED
+
+
+def together(edits, crate, room):
+    """Tries edits of different functions in a scratch copy, which then is as it was. Returns how the prover refuses each, by its path.
+
+    One that it says nothing sure of is left out.
+    """
+    folder, before, texts, changed = f"{room}/crates/{crate}", {}, {}, {}
+    try:
+        for edit in edits:
+            changed[edit] = functions_of(edit, folder)
+            new = applied(edit, folder)
+            for path in new:
+                if path not in before:
+                    before[path] = read(folder, path)
+            written(folder, new)
+            texts.update(new)
+        _, told = checked(folder, texts, sorted({module_of(crate, path) for path in texts}))
+    except BadEdit:
+        return {}
+    finally:
+        written(folder, before)
+    found = verdicts(told, texts)
+    if found is None or {key for key, it in found.items() if it != "proved"} - set().union(*changed.values()):
+        return {}
+    refused = {}
+    for edit, keys in changed.items():
+        how = {found.get(key) for key in keys} - {"proved"}
+        if how == {"refused"}:
+            refused[edit] = REFUSED
+        elif how == {"by name"}:
+            refused[edit] = REFUSED_BY_NAME
+    return refused
 
 
 def is_refused(edit, crate, room):
     """Tries an edit in a scratch copy, which then is as it was. Returns how the prover refuses it, or None where it is still proved."""
     folder = f"{room}/crates/{crate}"
     texts = applied(edit, folder)
-    before = {}
-    for path in texts:
-        with open(f"{folder}/{path}", encoding="utf-8") as file:
-            before[path] = file.read()
+    before = {path: read(folder, path) for path in texts}
     modules = [module_of(crate, path) for path in texts]
     try:
         written(folder, texts)
         return (all(modules) and refuses(folder, texts, modules)) or refuses(folder, texts, [])
     finally:
         written(folder, before)
+
+
+def read(folder, path):
+    """Returns the text of a file."""
+    with open(f"{folder}/{path}", encoding="utf-8") as file:
+        return file.read()
 
 
 def written(folder, texts):
@@ -119,29 +165,42 @@ class Run:
     """What is tried in a run, and what came of it."""
 
     def __init__(self, untried):
-        self.left = queue.SimpleQueue()
-        for it in untried:
-            self.left.put(it)
-        self.count, self.refused, self.failed = len(untried), 0, 0
+        """`untried` has for each crate its edits, each with the file that stands for it once it was refused."""
+        self.left, self.untried = queue.SimpleQueue(), untried
+        for crate, edits in untried.items():
+            for batch in batches(edits, f"{ROOT}/crates/{crate}", MOST):
+                self.left.put((crate, batch))
+        self.count, self.refused, self.failed = sum(map(len, untried.values())), 0, 0
         self.writing, self.stopped = threading.Lock(), False
 
     def work(self, room):
-        """Tries edits in a scratch copy, one after another, until none is left."""
+        """Tries edits in a scratch copy, one batch after another, until none is left."""
         copied(room)
         while not self.stopped:
             try:
-                edit, crate, memory = self.left.get_nowait()
+                crate, edits = self.left.get_nowait()
             except queue.Empty:
                 return
             begun = time.monotonic()
-            try:
-                refused, why = is_refused(edit, crate, room), "it is still proved"
-            except BadEdit as bad:
-                refused, why = None, str(bad)
-            self.tell(f"{crate}/{os.path.basename(edit)}", memory, refused, why, time.monotonic() - begun)
+            refused = together(edits, crate, room) if len(edits) > 1 else {}
+            for edit, how in refused.items():
+                self.tell(crate, edit, how, "", (time.monotonic() - begun) / len(refused))
+            for edit in edits:
+                if edit not in refused and not self.stopped:
+                    self.alone(crate, edit, room)
 
-    def tell(self, name, memory, refused, why, seconds):
+    def alone(self, crate, edit, room):
+        """Tries an edit by itself."""
+        begun = time.monotonic()
+        try:
+            refused, why = is_refused(edit, crate, room), "it is still proved"
+        except BadEdit as bad:
+            refused, why = None, str(bad)
+        self.tell(crate, edit, refused, why, time.monotonic() - begun)
+
+    def tell(self, crate, edit, refused, why, seconds):
         """Says what came of an edit, and remembers it where it was refused."""
+        name, memory = f"{crate}/{os.path.basename(edit)}", self.untried[crate][edit]
         with self.writing:
             if refused:
                 self.refused += 1
@@ -178,21 +237,21 @@ def main(names):
         print(f"no crate: {' '.join(sorted(set(names) - set(below)))}")
         return 2
     version = subprocess.run(["rt", "version"], capture_output=True, text=True, check=True).stdout
-    sum_of, untried, earlier = sums(below), [], 0
+    sum_of, untried, earlier = sums(below), {}, 0
     for crate in below:
         for edit in edits_of(crate) if not names or crate in names else []:
             memory = remembered(edit, crate, below[crate], sum_of, version)
             if os.path.exists(memory):
                 earlier += 1
             else:
-                untried.append((edit, crate, memory))
+                untried.setdefault(crate, {})[edit] = memory
     run = Run(untried)
     signal.signal(signal.SIGTERM, interrupted)
     try:
-        if not prove(list(dict.fromkeys(crate for _, crate, _ in untried))):
+        if not prove(list(untried)):
             return 1
         if untried:
-            run.all(min(lanes(), len(untried)))
+            run.all(min(lanes(), run.left.qsize()))
     except KeyboardInterrupt:
         print("broken off: the next run goes on from here")
     left = run.count - run.refused - run.failed
