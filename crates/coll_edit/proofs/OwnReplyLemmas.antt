@@ -15,9 +15,9 @@ use Rattle.coll_faults.specs.declared.faults.RunFault.{RunFault}
 use Rattle.coll_bench.proofs.ReplyLemmas.{flushed}
 use Rattle.coll_explanations.specs.Explaining.{Explains, starved}
 use Rattle.coll_explanations.specs.Explanations.{explanation}
-use Rattle.coll_edit.specs.Help.{SendsHelp, SendsReadHelp}
+use Rattle.coll_edit_replies.specs.Help.{SendsHelp, SendsReadHelp}
 use Rattle.coll_edit.specs.OwnReplies.{SendsAnswer, SendsExplained}
-use Rattle.coll_edit.specs.Showing.{refusal_told}
+use Rattle.coll_edit_replies.specs.Showing.{refusal_told}
 use Rattle.coll_edit.specs.declared.editors.Next.{Next}
 use Rattle.coll_edit.specs.declared.own_lines.OwnLine.{OwnLine}
 use Rattle.coll_edit.specs.declared.own_lines.OwnLine.TheVariants as own

@@ -1,10 +1,5 @@
 pub mod Editing
 pub mod EditRuns
-pub mod Help
 pub mod OwnLines
 pub mod OwnReplies
-pub mod Showing
-pub mod ToldLists
 pub mod Watching
-pub mod WordKeys
-pub mod WordLists

@@ -8,8 +8,8 @@ use Rattle.coll_bench.specs.BatchWriting.{starved_key}
 use Rattle.coll_faults.specs.declared.faults.Fault.TheVariants as fault
 use Rattle.coll_delta_texts.specs.DeltaText.{delta_text}
 use Rattle.coll_explanations.specs.Explanations.{explanation}
-use Rattle.coll_edit.specs.Help.{SendsHelp}
-use Rattle.coll_edit.specs.Showing.{refusal_told, shown}
+use Rattle.coll_edit_replies.specs.Help.{SendsHelp}
+use Rattle.coll_edit_replies.specs.Showing.{refusal_told, shown}
 use Rattle.coll_edit.specs.declared.own_lines.OwnLine.{OwnLine}
 use Rattle.coll_edit.specs.declared.own_lines.OwnLine.TheVariants as own
 

@@ -32,22 +32,20 @@ ghost use Rattle.coll_edit.specs.Watching.{device_of};
 
 use crate::copies::copied_statement;
 use crate::devices::OpensFiles;
-use crate::help::{write_help, write_number_help};
 use crate::messages::{Hint, Origin, end_prompt, hint_for, prompt, tell_refusal};
 use crate::notes::{Note, note_on, tell_note, tell_unended};
 use crate::own_lines::{OwnLine, own_line};
-use crate::replies::{flush, write_count, write_refusal};
-use crate::showing::write_shown;
-use crate::statements::write_statements;
 use crate::typed_lines::{LineFault, TypedLines};
 use crate::watched::Watched;
-use crate::word_keys::are_few;
-use crate::word_lists::write_words;
 use coll_advice::{Found, faults_of};
 use coll_bench::{
     BenchFault, Fault, RunFault, RunState, TakesStatements, read_delta, write_failed,
 };
 use coll_devices::{ReadStop, Sink, Source, WriteStop};
+use coll_edit_replies::{
+    are_few, flush, write_count, write_help, write_number_help, write_refusal, write_shown,
+    write_statements, write_words,
+};
 use coll_explanations::{explain, explain_by_places};
 use coll_lex::{LexFault, TextBuf};
 use coll_requests::{Command, Request, RequestAt, RequestFault, StatementAt};

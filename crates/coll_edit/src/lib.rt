@@ -2,14 +2,12 @@
 //!
 //! Each physical line is first taken as the session of `coll_bench` takes it. Only where that refuses it as an unknown command or for
 //! an operand of the wrong kind is it read as a line of `edit`, which stands beside the session and never changes its history. So
-//! what is typed has the requests of the session, whatever it is, and only replies to refused ones differ. A way through the crate,
-//! each file with its definitions in `specs/`:
+//! what is typed has the requests of the session, whatever it is, and only replies to refused ones differ; these replies are those of
+//! coll_edit_replies (`OwnReplies`). A way through the crate, each file with its definitions in `specs/`:
 //!
 //! - `own_lines`: the lines that stand beside those of a session (`OwnLines`);
 //! - `watched`: an output that knows which refusal its last reply told (`Watching`);
 //! - `devices`: files that are opened by their names;
-//! - `replies`, `showing`, `statements`, `word_lists` with `word_keys`, `help`: what these lines are answered (`Showing`,
-//!   `WordLists`, `ToldLists`, `WordKeys`, `Help`, and `OwnReplies` for all that ask for nothing but the table and the history);
 //! - `typed_lines`: what a typed line is by itself, so that its fault is told where it is typed;
 //! - `messages`: prompts, and the sentence behind a refusal, for standard error; `notes`: what is told there of an accepted statement;
 //! - `copies`: copies of statements, which delta files put before the first line;
@@ -20,18 +18,12 @@
 mod copies;
 mod devices;
 mod editors;
-mod help;
 mod messages;
 mod notes;
 mod own_lines;
-mod replies;
 mod runs;
-mod showing;
-mod statements;
 mod typed_lines;
 mod watched;
-mod word_keys;
-mod word_lists;
 
 pub use devices::{FileReason, OpensFiles};
 pub use editors::Editor;

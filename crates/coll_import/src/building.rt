@@ -16,9 +16,8 @@ use crate::proper_lines::{section_line, table_line};
 use crate::rules::common_rules;
 use coll_lex::TextBuf;
 use coll_lookups::HashKeys;
-use coll_meanings::{
-    DeclaredRange, LastNames, Meanings, PlacedLookUp, SourceStatement, lose_statement,
-};
+use coll_meanings::{LastNames, Meanings, PlacedLookUp};
+use coll_source_names::{DeclaredRange, SourceStatement, lose_statement};
 use coll_sources::{NameRange, Report, SourceFault, SourceLine, SourcePlace, spell_next};
 use coll_syntax::{Rules, Statement, TableLine};
 use coll_table::Table;

@@ -7,8 +7,9 @@ use crate::orders::Order;
 use coll_lex::TextBuf;
 use coll_lookups::HashKeys;
 use coll_meanings::{
-    Ellipses, Found, Meanings, NameGuess, OrderLines, put_before, put_range, without_symbol_weights,
+    Ellipses, Meanings, OrderLines, put_before, put_range, without_symbol_weights,
 };
+use coll_source_names::{Found, NameGuess};
 use coll_sources::{Adjustment, Report, Said, SourceFault, SourceLine, SourcePlace};
 use coll_syntax::{Id, OrderLine, SyntaxFault};
 use coll_texts::LoadCause;

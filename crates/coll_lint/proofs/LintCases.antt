@@ -13,9 +13,9 @@ use Rattle.coll_bench.specs.Serving.{write_failed}
 use Rattle.coll_faults.specs.declared.faults.RunFault.{RunFault}
 use Rattle.coll_lint.specs.LintLines.{lint_text}
 use Rattle.coll_lint.specs.Lints.{BeginsWith, IsLintOf, LintRuns, LintsTexts, TellsFaults, is_at_fault, is_of_no_text}
-use Rattle.coll_surveys.specs.ToldFaults.{AreOnce}
-use Rattle.coll_surveys.specs.declared.findings.FoundFault.{FoundFault}
-use Rattle.coll_surveys.proofs.OnceLemmas.{once_none}
+use Rattle.coll_findings.specs.ToldFaults.{AreOnce}
+use Rattle.coll_findings.specs.declared.findings.FoundFault.{FoundFault}
+use Rattle.coll_findings.proofs.OnceLemmas.{once_none}
 use Rattle.coll_lint.specs.declared.lints.Lint.{Lint}
 
 -- a kind of fault that is neither of a read, of a write nor of memory

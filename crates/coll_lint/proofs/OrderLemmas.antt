@@ -10,13 +10,13 @@ use Rattle.std.proofs.lemmas.Map.Keys.{IsDistinct-cons, IsDistinct-head, IsDisti
 use Rattle.std.proofs.lemmas.Bool.{eqb-true, false≢true}
 use Rattle.coll_faults.specs.Faults.{fault_number}
 use Rattle.coll_faults.specs.declared.faults.RunFault.{RunFault}
-use Rattle.coll_surveys.specs.ToldFaults.{AreOnce, are_same, is_of_id, is_told_by_id, number_told, same_subject}
+use Rattle.coll_findings.specs.ToldFaults.{AreOnce, are_same, is_of_id, is_told_by_id, number_told, same_subject}
 use Rattle.coll_lint.specs.Lints.{is_answered}
 use Rattle.coll_lint.specs.Orders.{AreRearranged, bare_fault, bare_subject}
-use Rattle.coll_surveys.specs.declared.findings.About.{About}
-use Rattle.coll_surveys.specs.declared.findings.About.TheVariants as about
-use Rattle.coll_surveys.specs.declared.findings.FoundFault.{FoundFault}
-use Rattle.coll_surveys.proofs.OnceLemmas.{are_same_symmetric, both_pass, eqb_symmetric}
+use Rattle.coll_findings.specs.declared.findings.About.{About}
+use Rattle.coll_findings.specs.declared.findings.About.TheVariants as about
+use Rattle.coll_findings.specs.declared.findings.FoundFault.{FoundFault}
+use Rattle.coll_findings.proofs.OnceLemmas.{are_same_symmetric, both_pass, eqb_symmetric}
 
 -- Names that are near.
 

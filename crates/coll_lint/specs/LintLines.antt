@@ -6,12 +6,12 @@ use Rattle.coll_syntax.specs.declared.identifiers.Id.{Id}
 use Rattle.coll_texts.specs.PrintedParts.{id_bytes, symbol_bytes}
 use Rattle.coll_faults.specs.Faults.{fault_number, fault_name}
 use Rattle.coll_bench.specs.Reports.{named}
-use Rattle.coll_surveys.specs.declared.findings.About.{About}
-use Rattle.coll_surveys.specs.declared.findings.About.TheVariants as about
-use Rattle.coll_surveys.specs.declared.findings.FoundFault.{FoundFault}
+use Rattle.coll_findings.specs.declared.findings.About.{About}
+use Rattle.coll_findings.specs.declared.findings.About.TheVariants as about
+use Rattle.coll_findings.specs.declared.findings.FoundFault.{FoundFault}
 use Rattle.coll_lint.specs.WarningLines.{warnings_text}
 use Rattle.coll_lint.specs.declared.lints.Lint.{Lint}
-use Rattle.coll_surveys.specs.declared.foreign_words.ForeignWord.{ForeignWord}
+use Rattle.coll_findings.specs.declared.foreign_words.ForeignWord.{ForeignWord}
 
 -- a keyword of another dialect, and what to write instead
 abbrev pub word_told : ForeignWord → List ℕ

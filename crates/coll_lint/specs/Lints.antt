@@ -9,8 +9,8 @@ use Rattle.coll_faults.specs.Faults.{fault_number}
 use Rattle.coll_bench.specs.Serving.{write_failed}
 use Rattle.coll_faults.specs.declared.faults.RunFault.{RunFault}
 use Rattle.coll_lint.specs.LintLines.{lint_text}
-use Rattle.coll_surveys.specs.ToldFaults.{AreOnce, number_told}
-use Rattle.coll_surveys.specs.declared.findings.FoundFault.{FoundFault}
+use Rattle.coll_findings.specs.ToldFaults.{AreOnce, number_told}
+use Rattle.coll_findings.specs.declared.findings.FoundFault.{FoundFault}
 use Rattle.coll_lint.specs.declared.lints.Lint.{Lint}
 
 -- this fault is told first

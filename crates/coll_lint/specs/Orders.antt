@@ -1,9 +1,9 @@
 -- The faults that a survey tells, in another order, and with names that are near (the project's own).
 use Rattle.std.specs.Prelude.{List, map, None}
 use Rattle.std.specs.List.Sorted.{IsPermutation}
-use Rattle.coll_surveys.specs.declared.findings.About.{About}
-use Rattle.coll_surveys.specs.declared.findings.About.TheVariants as about
-use Rattle.coll_surveys.specs.declared.findings.FoundFault.{FoundFault}
+use Rattle.coll_findings.specs.declared.findings.About.{About}
+use Rattle.coll_findings.specs.declared.findings.About.TheVariants as about
+use Rattle.coll_findings.specs.declared.findings.FoundFault.{FoundFault}
 
 -- what a fault is about, without a name that is near
 abbrev pub bare_subject : About → About

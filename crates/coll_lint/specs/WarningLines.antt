@@ -7,11 +7,11 @@ use Rattle.coll_bench.specs.Reports.{named}
 use Rattle.coll_lint.specs.Counts.{with_commas}
 use Rattle.coll_lint.specs.declared.warning_lines.KindLine.{KindLine}
 use Rattle.coll_lint.specs.declared.warning_lines.KindLine.TheVariants as kind
-use Rattle.coll_surveys.specs.declared.warnings.Warned.{Warned}
-use Rattle.coll_surveys.specs.declared.warnings.WarnedKind.{WarnedKind}
-use Rattle.coll_surveys.specs.declared.warnings.Warning.{Warning}
-use Rattle.coll_surveys.specs.declared.warnings.Warning.TheVariants as warning
-use Rattle.coll_surveys.specs.declared.warnings.Warnings.{Warnings}
+use Rattle.coll_findings.specs.declared.warnings.Warned.{Warned}
+use Rattle.coll_findings.specs.declared.warnings.WarnedKind.{WarnedKind}
+use Rattle.coll_findings.specs.declared.warnings.Warning.{Warning}
+use Rattle.coll_findings.specs.declared.warnings.Warning.TheVariants as warning
+use Rattle.coll_findings.specs.declared.warnings.Warnings.{Warnings}
 
 -- what a warning says that is the only one of its kind, behind the name that it is about, if it is about one
 abbrev pub alone_told : Warning → List ℕ

@@ -5,12 +5,12 @@
 
 ghost use Rattle.std.specs.Prelude.{◌≡◌, ◌<◌, ◌∷◌, true, false, length, get_or, All, IfNone, IfSome, OnOk};
 ghost use Rattle.coll_lint.specs.Lints.{AreOthers, BeginsWith, IsPutFirst, is_answered as answered_so};
-ghost use Rattle.coll_surveys.specs.ToldFaults.{AreOnce};
-ghost use Rattle.coll_surveys.specs.declared.findings.About.TheVariants as about;
-ghost use Rattle.coll_surveys.specs.declared.findings.FoundFault.{FoundFault};
+ghost use Rattle.coll_findings.specs.ToldFaults.{AreOnce};
+ghost use Rattle.coll_findings.specs.declared.findings.About.TheVariants as about;
+ghost use Rattle.coll_findings.specs.declared.findings.FoundFault.{FoundFault};
 
 use coll_faults::RunFault;
-use coll_surveys::{About, FoundFault};
+use coll_findings::{About, FoundFault};
 use std::alloc::AllocError;
 
 /// Puts the fault that a batch answers before those of a survey, from which it is taken out where it is among them.

@@ -10,8 +10,8 @@ ghost use Rattle.coll_lint.specs.LintLines.{subject_told, word_told};
 use crate::lints::Lint;
 use crate::warning_lines::write_warnings;
 use coll_devices::{Sink, WriteStop};
+use coll_findings::{About, ForeignWord, FoundFault};
 use coll_lex::TextBuf;
-use coll_surveys::{About, ForeignWord, FoundFault};
 use coll_syntax::Id;
 use coll_texts::{Piece, write_pieces};
 

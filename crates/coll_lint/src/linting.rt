@@ -13,7 +13,7 @@ ghost use Rattle.coll_lint.specs.LintLines.{lint_text};
 ghost use Rattle.coll_lint.specs.Lints.{BeginsWith, JudgesTable, JudgesDelta, LintRuns, LintsTexts, is_at_fault};
 ghost use Rattle.coll_lint.specs.Lints.{is_of_no_text as of_no_text};
 ghost use Rattle.coll_nodes.specs.TableLayout.{collation};
-ghost use Rattle.coll_surveys.specs.ToldFaults.{AreOnce};
+ghost use Rattle.coll_findings.specs.ToldFaults.{AreOnce};
 
 use crate::first_faults::put_first;
 use crate::kept_texts::no_memory;
@@ -23,9 +23,10 @@ use crate::progress::{Nobody, Progress, WatchedText};
 use crate::surveyed::told_of;
 use coll_bench::{Fault, RunFault, read_delta, read_inputs};
 use coll_devices::{Counted, Sink, WriteStop};
+use coll_findings::Told;
 use coll_lex::ListBuf;
 use coll_lookups::HashKeys;
-use coll_surveys::{Told, survey_accepted, survey_delta, survey_table};
+use coll_surveys::{survey_accepted, survey_delta, survey_table};
 use coll_table::Table;
 use std::alloc::{AllocError, Global};
 

@@ -1,7 +1,7 @@
 //! What is told of a table and a delta file. It is plain data.
 
+use coll_findings::{FoundFault, Warnings};
 use coll_lex::ListBuf;
-use coll_surveys::{FoundFault, Warnings};
 
 /// What is told of a table and a delta file.
 #[derive(Drop)]

@@ -4,8 +4,8 @@ ghost use Rattle.std.specs.Prelude.{◌≡◌, length, map, OnOk};
 ghost use Rattle.coll_lint.specs.Orders.{bare_fault, bare_subject};
 
 use coll_advice::nearest_name;
+use coll_findings::{About, FoundFault};
 use coll_lex::TextBuf;
-use coll_surveys::{About, FoundFault};
 use coll_syntax::Id;
 use coll_table::Table;
 use std::alloc::{AllocError, Global};

@@ -2,10 +2,10 @@
 
 ghost use Rattle.std.specs.Prelude.{◌≡◌, IfOk, OnOk};
 ghost use Rattle.coll_lint.specs.Orders.{AreRearranged};
-ghost use Rattle.coll_surveys.specs.ToldFaults.{AreOnce};
+ghost use Rattle.coll_findings.specs.ToldFaults.{AreOnce};
 
 use crate::near_names::seek_near_names;
-use coll_surveys::{Surveyed, Told, Warnings};
+use coll_findings::{Surveyed, Told, Warnings};
 use std::alloc::{AllocError, Global};
 
 // The bytes of a byte order mark, in UTF-8.

@@ -13,7 +13,7 @@ ghost use Rattle.coll_lint.specs.WarningLines.{line_end as end_of_line, warnings
 use crate::counts::with_commas;
 use crate::lint_lines::name_of;
 use coll_devices::{Sink, WriteStop, write_bytes};
-use coll_surveys::{Warned, WarnedKind, Warning, Warnings};
+use coll_findings::{Warned, WarnedKind, Warning, Warnings};
 use coll_syntax::Id;
 use coll_texts::{Piece, write_pieces};
 

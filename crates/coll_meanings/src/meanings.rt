@@ -1,13 +1,10 @@
 //! What each name of a source means, and what is declared, where no table is asked.
 //!
-//! The rules are those of `declared_names`. What a table declares may be copied into them. They hold no table, so they outlive it, and
+//! The rules are those of `DeclaredNames`. What a table declares may be copied into them. They hold no table, so they outlive it, and
 //! may go to another thread.
 
-use crate::declared_names::DeclaredNames;
-use crate::known_names::NameGuess;
-use crate::placed::Found;
-use crate::{DeclaredRange, SourceStatement};
 use coll_lookups::HashKeys;
+use coll_source_names::{DeclaredNames, DeclaredRange, Found, NameGuess, SourceStatement};
 use coll_sources::{Report, SourceFault, SourceLine, SourcePlace};
 use coll_syntax::{Id, OrderLine};
 use coll_table::Table;

@@ -1,10 +1,9 @@
 //! What each name of a source means, and what is declared, over a table that it tailors.
 //!
-//! The rules are those of `declared_names`; here stands the table that is asked.
+//! The rules are those of `DeclaredNames`; here stands the table that is asked.
 
-use crate::SourceStatement;
-use crate::declared_names::DeclaredNames;
 use coll_lookups::HashKeys;
+use coll_source_names::{DeclaredNames, SourceStatement};
 use coll_sources::{Report, SourceFault, SourceLine, SourcePlace};
 use coll_syntax::{Id, OrderLine};
 use coll_table::Table;

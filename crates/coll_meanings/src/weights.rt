@@ -3,14 +3,12 @@
 //! Weights over a table that is tailored and those over none go by the same rules (`LookUp`); what is handed out for those over none
 //! holds nothing of a table. Where all that is placed is known by what was found of it, each identifier is looked up once.
 
-use crate::declared_names::DeclaredNames;
-use crate::known_names::NameGuess;
 use crate::meanings::Meanings;
-use crate::placed::{Found, Placed};
 use crate::source_ids::SourceIds;
 use crate::table_meanings::TableMeanings;
 use coll_lex::ListBuf;
 use coll_lookups::IdSet;
+use coll_source_names::{DeclaredNames, Found, NameGuess, Placed};
 use coll_sources::{Adjustment, Lost, Report, SourceFault, SourcePlace};
 use coll_syntax::{Id, MOST_WEIGHT_IDS, OrderLine, Weight};
 use coll_table::Table;

@@ -3,8 +3,8 @@ use Rattle.std.specs.Prelude.{◌≡◌, ℕ, ◌<◌, List, [], ◌∷◌, ◌+
 use Rattle.coll_devices.specs.Limits.{most_line_bytes}
 use Rattle.coll_devices.specs.PhysicalLines.{line_feed}
 use Rattle.coll_texts.specs.PrintedParts.{symbol_bytes}
-use Rattle.coll_surveys.specs.declared.findings.About.{About}
-use Rattle.coll_surveys.specs.declared.findings.About.TheVariants as about
+use Rattle.coll_findings.specs.declared.findings.About.{About}
+use Rattle.coll_findings.specs.declared.findings.About.TheVariants as about
 use Rattle.coll_refused_lines.specs.MarkedLines.{margin_below, mark_line, shown_line}
 use Rattle.coll_refused_lines.specs.NumberedLines.{IsLineAt}
 use Rattle.coll_refused_lines.specs.declared.marked_lines.MarkedLine.{MarkedLine}

@@ -6,7 +6,7 @@
 
 ghost use Rattle.std.specs.Prelude.{◌≡◌, chars, IfOk, IfSome, None};
 ghost use Rattle.coll_devices.specs.Devices.{Writes};
-ghost use Rattle.coll_surveys.specs.declared.findings.About.TheVariants as about;
+ghost use Rattle.coll_findings.specs.declared.findings.About.TheVariants as about;
 ghost use Rattle.coll_refused_lines.specs.RefusedLines.{IsFirstPart, IsOfLine, advice_told, near_told, refused_text, shown_told, what_to_do};
 
 use crate::marked_lines::{MarkedLine, marked_line};
@@ -15,9 +15,10 @@ use crate::spelled_places::{Sought, place_in};
 use coll_advice::advice_of;
 use coll_devices::{MOST_LINE_BYTES, Sink, WriteStop};
 use coll_faults::RunFault;
+use coll_findings::{About, FoundFault, Told};
 use coll_lint::{found_as, told_of};
 use coll_lookups::HashKeys;
-use coll_surveys::{About, FoundFault, Told, survey_delta, survey_table};
+use coll_surveys::{survey_delta, survey_table};
 use coll_table::Table;
 use coll_texts::{Piece, write_pieces};
 use std::alloc::{AllocError, Global};

@@ -9,13 +9,13 @@ use Rattle.coll_nodes.specs.Table.{Collation}
 use Rattle.coll_nodes.specs.TableLayout.{TableValue, collation}
 use Rattle.coll_texts.specs.BuilderStates.{BuilderState, table_of}
 use Rattle.coll_texts.specs.LoadFaults.{early_fault}
-use Rattle.coll_surveys.specs.SurveyedLines.{Handed, Takes, ended_early, first_lines}
+use Rattle.coll_findings.specs.SurveyedLines.{Handed, Takes, ended_early, first_lines}
 use Rattle.coll_surveys.specs.TableSurveys.{SurveyState, TellsLine, end_faults, ended_by, ends_table, first_survey, given_table, left_by, lines_faults, lines_left, load_fault}
 use Rattle.coll_surveys.specs.TableSurveys.{survey_state, table_lines, text_faults, text_left, told_of_table}
 use Rattle.coll_surveys.specs.TableWeights.{TellsWeights, table_faults, text_weights, weights_by}
-use Rattle.coll_surveys.specs.ToldFaults.{AreAmong, LineFault, Tells, told_fault}
-use Rattle.coll_surveys.specs.declared.collecting.Surveyed.{Surveyed}
-use Rattle.coll_surveys.specs.declared.findings.FoundFault.{FoundFault}
+use Rattle.coll_findings.specs.ToldFaults.{AreAmong, LineFault, Tells, told_fault}
+use Rattle.coll_findings.specs.declared.collecting.Surveyed.{Surveyed}
+use Rattle.coll_findings.specs.declared.findings.FoundFault.{FoundFault}
 use Rattle.coll_surveys.specs.declared.table_surveys.TableSurvey.{TableSurvey}
 use Rattle.coll_surveys.specs.declared.table_weights.WeightSurvey.{WeightSurvey}
 use Rattle.coll_surveys.proofs.TellingLemmas.{told_none, told_on, told_on_ok}

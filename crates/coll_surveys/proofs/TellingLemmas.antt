@@ -13,10 +13,10 @@ use Rattle.coll_advice.specs.declared.found.Found.{Found}
 use Rattle.coll_faults.specs.declared.faults.Fault.TheVariants as fault
 use Rattle.coll_surveys.specs.DeltaSurveys.{alone_faults, block_faults, block_left, category_faults, faults_told, open_faults, passed_faults, statement_faults, table_left}
 use Rattle.coll_surveys.specs.TableSurveys.{bare_line, judged_faults, judging, line_faults, load_faults, outside_faults, told_of_table}
-use Rattle.coll_surveys.specs.ToldFaults.{AreAmong, LineFault, Tells, at_line, told_fault}
+use Rattle.coll_findings.specs.ToldFaults.{AreAmong, LineFault, Tells, at_line, told_fault}
 use Rattle.coll_surveys.specs.declared.delta_surveys.DeltaSurvey.{DeltaSurvey}
-use Rattle.coll_surveys.specs.declared.findings.FoundFault.{FoundFault}
-use Rattle.coll_surveys.specs.declared.line_surveys.Opening.{Opening}
+use Rattle.coll_findings.specs.declared.findings.FoundFault.{FoundFault}
+use Rattle.coll_findings.specs.declared.line_surveys.Opening.{Opening}
 use Rattle.coll_surveys.specs.declared.open_blocks.OpenBlock.{OpenBlock}
 use Rattle.coll_surveys.specs.declared.table_surveys.TableSurvey.{TableSurvey}
 

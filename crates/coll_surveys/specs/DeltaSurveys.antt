@@ -24,12 +24,12 @@ use Rattle.coll_advice.specs.Faults.{faults}
 use Rattle.coll_advice.specs.declared.found.Found.{Found}
 use Rattle.coll_faults.specs.Faults.{delta_fault_of}
 use Rattle.coll_faults.specs.declared.faults.Fault.TheVariants as fault
-use Rattle.coll_surveys.specs.SurveyedLines.{Given, Handed, Refused}
-use Rattle.coll_surveys.specs.ToldFaults.{LineFault, Tells, at_line}
+use Rattle.coll_findings.specs.SurveyedLines.{Given, Handed, Refused}
+use Rattle.coll_findings.specs.ToldFaults.{LineFault, Tells, at_line}
 use Rattle.coll_surveys.specs.declared.delta_surveys.DeltaSurvey.{DeltaSurvey}
-use Rattle.coll_surveys.specs.declared.findings.FoundFault.{FoundFault}
-use Rattle.coll_surveys.specs.declared.line_surveys.Opening.{Opening}
-use Rattle.coll_surveys.specs.declared.line_surveys.Opening.TheVariants as opening
+use Rattle.coll_findings.specs.declared.findings.FoundFault.{FoundFault}
+use Rattle.coll_findings.specs.declared.line_surveys.Opening.{Opening}
+use Rattle.coll_findings.specs.declared.line_surveys.Opening.TheVariants as opening
 use Rattle.coll_surveys.specs.declared.open_blocks.EndedBlock.{EndedBlock}
 use Rattle.coll_surveys.specs.declared.open_blocks.OpenBlock.{OpenBlock}
 

@@ -17,9 +17,9 @@ use Rattle.coll_texts.specs.Loading.{state_after, state_refused, state_with}
 use Rattle.coll_texts.specs.declared.load_faults.LoadCause.TheVariants.{OutsideOrder, Syntax}
 use Rattle.coll_texts.specs.declared.load_faults.LoadFault.{LoadFault}
 use Rattle.coll_faults.specs.declared.faults.Fault.TheVariants as fault
-use Rattle.coll_surveys.specs.SurveyedLines.{Given, Handed, Refused, ended_early, first_lines, handed_on}
-use Rattle.coll_surveys.specs.ToldFaults.{LineFault, Tells, at_line}
-use Rattle.coll_surveys.specs.declared.findings.FoundFault.{FoundFault}
+use Rattle.coll_findings.specs.SurveyedLines.{Given, Handed, Refused, ended_early, first_lines, handed_on}
+use Rattle.coll_findings.specs.ToldFaults.{LineFault, Tells, at_line}
+use Rattle.coll_findings.specs.declared.findings.FoundFault.{FoundFault}
 use Rattle.coll_surveys.specs.declared.standings.Standing.{Standing}
 use Rattle.coll_surveys.specs.declared.standings.Standing.TheVariants as stands
 use Rattle.coll_surveys.specs.declared.table_surveys.TableSurvey.{TableSurvey}

@@ -16,9 +16,9 @@ use Rattle.coll_nodes.specs.TableLayout.{collation}
 use Rattle.coll_texts.specs.BuilderStates.{weight_cause}
 use Rattle.coll_texts.specs.declared.load_faults.LoadCause.{LoadCause}
 use Rattle.coll_texts.specs.declared.load_faults.LoadCause.TheVariants.{SymbolWithWeights, TooManyWeights}
-use Rattle.coll_surveys.specs.SurveyedLines.{Given, Handed, Refused}
+use Rattle.coll_findings.specs.SurveyedLines.{Given, Handed, Refused}
 use Rattle.coll_surveys.specs.TableSurveys.{given_table, load_fault, table_lines, text_faults, text_left}
-use Rattle.coll_surveys.specs.ToldFaults.{LineFault, Tells}
+use Rattle.coll_findings.specs.ToldFaults.{LineFault, Tells}
 use Rattle.coll_surveys.specs.declared.table_weights.WeightSurvey.{WeightSurvey}
 
 -- a fault of the line of this number, if there is a cause for one

@@ -8,12 +8,11 @@
 ghost use Rattle.std.specs.Prelude.{◌≡◌, ◌<◌, [], length, IfOk, Some};
 ghost use Rattle.coll_texts.specs.BuilderStates.{is_end};
 ghost use Rattle.coll_surveys.specs.TableSurveys.{ends_table};
-ghost use Rattle.coll_surveys.specs.ToldFaults.{AreOnce};
+ghost use Rattle.coll_findings.specs.ToldFaults.{AreOnce};
 
-use crate::collecting::{Collected, Surveyed};
-use crate::line_surveys::{Opening, TakesLines, survey_keywords};
-use crate::unplaced::{Declarations, DeclaredName};
-use crate::warnings::Warning;
+use coll_findings::{
+    Collected, Declarations, DeclaredName, Opening, Surveyed, TakesLines, Warning, survey_keywords,
+};
 use coll_lex::{LexFault, Line};
 use coll_lookups::HashKeys;
 use coll_syntax::{SyntaxFault, TableLine, parse_table_line};

@@ -9,22 +9,20 @@ ghost use Rattle.coll_lex.specs.Names.{AreTokens};
 ghost use Rattle.coll_requests.specs.DeltaFaults.{early_fault};
 ghost use Rattle.coll_faults.specs.Faults.{delta_fault_of};
 ghost use Rattle.coll_faults.specs.declared.faults.Fault.TheVariants as refused;
-ghost use Rattle.coll_surveys.specs.ToldFaults.{AreOnce, Tells, at_line};
+ghost use Rattle.coll_findings.specs.ToldFaults.{AreOnce, Tells, at_line};
 ghost use Rattle.coll_surveys.specs.DeltaSurveys.{TellsDeltaLine, alone_faults, block_faults, category_faults, early_faults, end_faults};
 ghost use Rattle.coll_surveys.specs.DeltaSurveys.{ended_faults, ends_delta, faults_of_line, is_delta_end};
 ghost use Rattle.coll_surveys.specs.DeltaSurveys.{block_left, faults_told, found_fault, line_faults, open_faults, order_faults};
 ghost use Rattle.coll_surveys.specs.DeltaSurveys.{passed_faults, refused_faults, statement_faults, table_left};
 
-use crate::collecting::{Collected, Surveyed};
-use crate::findings::About;
-use crate::line_surveys::{Opening, TakesLines, survey_lines};
 use crate::open_blocks::{EndedBlock, OpenBlock, line_of};
-use crate::subjects::{about_found, refused_subject};
 use crate::unchanged::changed_nothing;
-use crate::unplaced::{Declarations, DeclaredName};
-use crate::warnings::Warning;
 use coll_advice::{Found, faults_of};
 use coll_faults::Fault;
+use coll_findings::{
+    About, Collected, Declarations, DeclaredName, Opening, Surveyed, TakesLines, Warning,
+    about_found, refused_subject, survey_lines,
+};
 use coll_lex::{EarlyEnd, LexFault, Line, TextBuf};
 use coll_lookups::HashKeys;
 use coll_requests::DeltaFault;

@@ -2,37 +2,22 @@
 //!
 //! A survey judges each line of a text by the lines before it; one that is refused is told and passed over, so that those behind it are
 //! judged by as much as possible. What is told of a line is what judging it gives, over what the lines before it left, each fault once
-//! (`ToldFaults`); of a table the public call says so of all lines (`table_faults`). No clause says that it is all, and tests show that. A
-//! way through the crate:
+//! (`ToldFaults` of coll_findings, which gathers what is told); of a table the public call says so of all lines (`table_faults`). No
+//! clause says that it is all, and tests show that. A way through the crate:
 //!
-//! - `findings`: faults that are told, with `foreign_words`: keywords of other dialects; `warnings`: what a text says to no purpose, by
-//!   kinds;
-//! - `collecting`: what is told, as it is gathered; `line_surveys`: the lines of a text, handed on one after another (`SurveyedLines`);
-//!   `subjects`: what a fault is about; `unplaced`: what is declared and never placed;
 //! - `table_surveys`, with `standings` and `table_weights`: a table, line by line (`TableSurveys`, `TableWeights`); `accepted_tables`: one
 //!   without fault;
 //! - `delta_surveys`, with `open_blocks` and `unchanged`: a delta file, statement by statement (`DeltaSurveys`).
 #![tactic(auto)]
 
 mod accepted_tables;
-mod collecting;
 mod delta_surveys;
-mod findings;
-mod foreign_words;
-mod line_surveys;
 mod open_blocks;
 mod standings;
-mod subjects;
 mod table_surveys;
 mod table_weights;
 mod unchanged;
-mod unplaced;
-mod warnings;
 
 pub use accepted_tables::survey_accepted;
-pub use collecting::{Surveyed, Told};
 pub use delta_surveys::survey_delta;
-pub use findings::{About, FoundFault};
-pub use foreign_words::ForeignWord;
 pub use table_surveys::survey_table;
-pub use warnings::{Warned, WarnedKind, Warning, Warnings};

@@ -16,8 +16,8 @@ ghost use Rattle.coll_texts.specs.LoadFaults.{early_fault, lex_cause};
 ghost use Rattle.coll_texts.specs.Loading.{state_with};
 ghost use Rattle.coll_texts.specs.declared.load_faults.LoadCause.TheVariants as cause;
 ghost use Rattle.coll_texts.specs.declared.load_faults.LoadCause.TheVariants.{OutOfMemory};
-ghost use Rattle.coll_surveys.specs.SurveyedLines.{ended_early, first_lines};
-ghost use Rattle.coll_surveys.specs.ToldFaults.{AreAmong, AreOnce, Tells, told_fault};
+ghost use Rattle.coll_findings.specs.SurveyedLines.{ended_early, first_lines};
+ghost use Rattle.coll_findings.specs.ToldFaults.{AreAmong, AreOnce, Tells, told_fault};
 ghost use Rattle.coll_surveys.specs.TableSurveys.{IsEnded, TellsLine, bare_line, begins_order, built_behind, closed_by, end_faults};
 ghost use Rattle.coll_surveys.specs.TableSurveys.{ended_by, ends_table, faults_of_line, given_table, judging, left_by_line, left_read};
 ghost use Rattle.coll_surveys.specs.TableSurveys.{line_faults, lines_faults, lines_left, load_fault, load_faults, opened_by, opened_if};
@@ -25,15 +25,13 @@ ghost use Rattle.coll_surveys.specs.TableSurveys.{outside_faults, ruled_behind, 
 ghost use Rattle.coll_surveys.specs.TableSurveys.{starts_order as stated_start, survey_state, table_lines, told_of_table};
 ghost use Rattle.coll_surveys.specs.TableWeights.{table_faults, text_weights};
 
-use crate::collecting::{Collected, Surveyed};
-use crate::findings::About;
-use crate::line_surveys::{Opening, TakesLines, survey_lines};
 use crate::standings::{Standing, ends_opened, is_in_order};
-use crate::subjects::{refused_subject, table_subject};
 use crate::table_weights::survey_weights;
-use crate::unplaced::{Declarations, DeclaredName};
-use crate::warnings::Warning;
 use coll_faults::Fault;
+use coll_findings::{
+    About, Collected, Declarations, DeclaredName, Opening, Surveyed, TakesLines, Warning,
+    refused_subject, survey_lines, table_subject,
+};
 use coll_lex::{EarlyEnd, LexFault, Line};
 use coll_lookups::HashKeys;
 use coll_syntax::{OrderLine, SyntaxFault, TableLine, is_word, parse_table_line};

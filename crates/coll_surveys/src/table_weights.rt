@@ -8,16 +8,14 @@ ghost use Rattle.coll_syntax.specs.declared.identifiers.Id.TheVariants.{Named};
 ghost use Rattle.coll_nodes.specs.Entries.{weight_ids};
 ghost use Rattle.coll_nodes.specs.TableLayout.{collation};
 ghost use Rattle.coll_texts.specs.BuilderStates.{is_end};
-ghost use Rattle.coll_surveys.specs.ToldFaults.{Tells};
+ghost use Rattle.coll_findings.specs.ToldFaults.{Tells};
 ghost use Rattle.coll_surveys.specs.TableSurveys.{ends_table};
 ghost use Rattle.coll_surveys.specs.TableWeights.{TellsWeights, cause_faults, given_cause, ids_faults, named_cause, read_weights};
 ghost use Rattle.coll_surveys.specs.TableWeights.{text_weights, weight_faults, weights_faults};
 
-use crate::collecting::Collected;
-use crate::line_surveys::{Opening, TakesLines, survey_lines};
-use crate::subjects::about_id;
 use coll_advice::{copied_own_id, is_placed};
 use coll_faults::Fault;
+use coll_findings::{Collected, Opening, TakesLines, about_id, survey_lines};
 use coll_lex::{LexFault, Line};
 use coll_syntax::{Id, OrderLine, SyntaxFault, TableLine, Weight, parse_table_line};
 use coll_table::Table;

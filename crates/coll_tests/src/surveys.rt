@@ -5,7 +5,8 @@
 
 use crate::assertions::{assert_same, assert_that};
 use crate::tables::examples::loaded;
-use coll_surveys::{Told, Warned, WarnedKind, Warnings, survey_accepted, survey_table};
+use coll_findings::{Told, Warned, WarnedKind, Warnings};
+use coll_surveys::{survey_accepted, survey_table};
 use coll_syntax::Id;
 use coll_table::{HashKeys, Table};
 use std::alloc::{AllocError, Global};

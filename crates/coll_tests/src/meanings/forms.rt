@@ -6,10 +6,10 @@ use crate::meanings::plain_weights::{
 };
 use coll_lookups::IdSet;
 use coll_meanings::{
-    DeclaredRange, LastNames, Meanings, NameGuess, Placed, PlacedLookUp, SourceIds,
-    SourceStatement, TableMeanings, TailoredLookUp, WeightLookUp, without_symbol_weights,
-    without_weights_of_symbol,
+    LastNames, Meanings, PlacedLookUp, SourceIds, TableMeanings, TailoredLookUp, WeightLookUp,
+    without_symbol_weights, without_weights_of_symbol,
 };
+use coll_source_names::{DeclaredRange, NameGuess, Placed, SourceStatement};
 use coll_sources::{Report, SourceFault, SourceLine, SourcePlace, name_at};
 use coll_syntax::{Id, OrderLine, Statement};
 use coll_table::{HashKeys, Table};

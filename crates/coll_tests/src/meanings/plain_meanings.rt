@@ -9,8 +9,8 @@
 
 use coll_lex::{TextBuf, is_name};
 use coll_lookups::HashKeys;
-use coll_meanings::SourceStatement;
 use coll_nodes::{DeclaredItem, MOST_DECLARATIONS};
+use coll_source_names::SourceStatement;
 use coll_sources::{
     Adjustment, Declaration, Lost, NameRange, Report, Said, SourceFault, SourceLine, SourcePlace,
     name_at,

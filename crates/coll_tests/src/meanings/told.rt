@@ -2,7 +2,7 @@
 
 use crate::meanings::forms::Form;
 use coll_lex::{Counted, ListBuf};
-use coll_meanings::SourceStatement;
+use coll_source_names::SourceStatement;
 use coll_sources::{
     Loss, Lost, Report, Said, SourceFault, SourceLine, SourcePlace, all_adjustments,
 };

@@ -1,6 +1,6 @@
 -- What is told stands before the others.
 use Rattle.std.proofs.Common.{sym, subst}
-use Rattle.coll_surveys.specs.ToldFaults.{AreOnce}
+use Rattle.coll_findings.specs.ToldFaults.{AreOnce}
 use Rattle.coll_lint.proofs.first_faults.put_first.Goals as goal
 
 pub returns-clause-once : goal.returns-clause-once

@@ -5,7 +5,7 @@ use Rattle.std.specs.List.{flat_map}
 use Rattle.coll_devices.specs.Devices.{AppendsPrefix}
 use Rattle.coll_devices.proofs.WritingLemmas.{AppendsPrefix-before, Sends-after}
 use Rattle.coll_lint.specs.LintLines.{found_line, more_line}
-use Rattle.coll_surveys.specs.declared.findings.FoundFault.{FoundFault}
+use Rattle.coll_findings.specs.declared.findings.FoundFault.{FoundFault}
 use Rattle.coll_lint.proofs.lint_lines.write_told_faults.Goals as goal
 
 pub returns-in-Ok : goal.returns-in-Ok

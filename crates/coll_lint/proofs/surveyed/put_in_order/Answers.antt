@@ -3,7 +3,7 @@ use Rattle.std.proofs.Common.{List, arith, sym, subst}
 use Rattle.std.specs.Prelude.{OnOk}
 use Rattle.std.proofs.lemmas.List.Sorted.{IsPermutation-map}
 use Rattle.coll_lint.specs.Orders.{AreRearranged, bare_fault}
-use Rattle.coll_surveys.specs.declared.findings.FoundFault.{FoundFault}
+use Rattle.coll_findings.specs.declared.findings.FoundFault.{FoundFault}
 use Rattle.coll_lint.proofs.OrderLemmas.{then_near, written_whole}
 use Rattle.coll_lint.proofs.surveyed.put_in_order.Goals as goal
 

@@ -1,7 +1,7 @@
 -- What is rearranged is told once where it was.
 use Rattle.std.proofs.Common.{sym, subst}
 use Rattle.coll_lint.specs.Orders.{AreRearranged}
-use Rattle.coll_surveys.specs.declared.collecting.Told.{Told}
+use Rattle.coll_findings.specs.declared.collecting.Told.{Told}
 use Rattle.coll_lint.proofs.OrderLemmas.{once_rearranged}
 use Rattle.coll_lint.proofs.surveyed.told_of.Goals as goal
 

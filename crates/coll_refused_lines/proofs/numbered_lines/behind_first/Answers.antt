@@ -1,7 +1,7 @@
 -- What a line feed ends is the first line.
 use Rattle.std.proofs.Common.{◌+◌, ◌∷◌, ◌∙◌, ap, sym, take}
 use Rattle.coll_devices.specs.PhysicalLines.{lines_of}
-use Rattle.coll_surveys.proofs.HandedLemmas.{ended_at, to_the_end}
+use Rattle.coll_findings.proofs.HandedLemmas.{ended_at, to_the_end}
 use Rattle.coll_refused_lines.proofs.numbered_lines.behind_first.Goals as goal
 
 pub returns : goal.returns

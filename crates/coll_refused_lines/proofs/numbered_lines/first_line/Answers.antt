@@ -2,7 +2,7 @@
 use Rattle.std.proofs.Common.{◌+◌, [], drop, take, rules}
 use Rattle.coll_devices.specs.PhysicalLines.{lines_of}
 use Rattle.coll_devices.proofs.PhysicalLinesLemmas.{lines_of-part}
-use Rattle.coll_surveys.proofs.HandedLemmas.{ended_at, in_line}
+use Rattle.coll_findings.proofs.HandedLemmas.{ended_at, in_line}
 use Rattle.coll_refused_lines.proofs.numbered_lines.first_line.Goals as goal
 
 pub returns-in-Some : goal.returns-in-Some

@@ -2,7 +2,7 @@
 use Rattle.std.proofs.Common.{take}
 use Rattle.coll_nodes.specs.TableLayout.{collation}
 use Rattle.coll_surveys.specs.TableWeights.{ids_faults}
-use Rattle.coll_surveys.specs.ToldFaults.{Tells}
+use Rattle.coll_findings.specs.ToldFaults.{Tells}
 use Rattle.coll_surveys.proofs.table_weights.judge_ids.Given as goal
 
 abbrev pub invariant-loop-id : goal.invariant-loop-id

@@ -3,7 +3,7 @@ use Rattle.std.proofs.Common.{List, [], ◌∷◌, sym, subst}
 use Rattle.std.specs.Prelude.{OnOk}
 use Rattle.coll_faults.specs.declared.faults.Fault.TheVariants as fault
 use Rattle.coll_surveys.specs.DeltaSurveys.{block_faults, block_left, faults_told, table_left}
-use Rattle.coll_surveys.specs.ToldFaults.{LineFault, Tells, at_line}
+use Rattle.coll_findings.specs.ToldFaults.{LineFault, Tells, at_line}
 use Rattle.coll_surveys.proofs.TellingLemmas.{category_ended, told_on_ok}
 use Rattle.coll_surveys.proofs.delta_surveys.DeltaSurvey.end_category.Goals as goal
 

@@ -1,7 +1,7 @@
 -- The statement is judged over the table that stood before.
 use Rattle.std.proofs.Common.{ap}
 use Rattle.coll_surveys.specs.DeltaSurveys.{faults_told}
-use Rattle.coll_surveys.specs.declared.collecting.Collected.{Collected}
+use Rattle.coll_findings.specs.declared.collecting.Collected.{Collected}
 use Rattle.coll_surveys.proofs.TellingLemmas.{alone_told, told_still_ok}
 use Rattle.coll_surveys.proofs.delta_surveys.DeltaSurvey.judge_alone.Goals as goal
 

@@ -1,6 +1,6 @@
 -- The line is told, and then what it ends.
 use Rattle.coll_faults.specs.declared.faults.Fault.TheVariants as fault
-use Rattle.coll_surveys.specs.ToldFaults.{at_line}
+use Rattle.coll_findings.specs.ToldFaults.{at_line}
 use Rattle.coll_surveys.proofs.TellingLemmas.{passed_told}
 use Rattle.coll_surveys.proofs.delta_surveys.DeltaSurvey.refuse_line.Goals as goal
 

@@ -5,7 +5,7 @@ use Rattle.coll_requests.specs.DeltaFaults.{early_fault}
 use Rattle.coll_requests.specs.declared.delta_faults.DeltaFault.{DeltaFault}
 use Rattle.coll_faults.specs.Faults.{delta_fault_of}
 use Rattle.coll_surveys.specs.DeltaSurveys.{block_faults, block_left, faults_told, table_left}
-use Rattle.coll_surveys.specs.ToldFaults.{Tells, at_line}
+use Rattle.coll_findings.specs.ToldFaults.{Tells, at_line}
 use Rattle.coll_surveys.proofs.TellingLemmas.{told_on_ok}
 use Rattle.coll_surveys.proofs.delta_surveys.DeltaSurvey.tell_end.Goals as goal
 

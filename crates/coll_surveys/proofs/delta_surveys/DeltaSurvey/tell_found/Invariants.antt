@@ -1,7 +1,7 @@
 -- The faults so far were told.
 use Rattle.std.proofs.Common.{map, take}
 use Rattle.coll_surveys.specs.DeltaSurveys.{faults_told, found_fault}
-use Rattle.coll_surveys.specs.ToldFaults.{Tells}
+use Rattle.coll_findings.specs.ToldFaults.{Tells}
 use Rattle.coll_surveys.proofs.delta_surveys.DeltaSurvey.tell_found.Given as goal
 
 abbrev pub invariant-loop-fault : goal.invariant-loop-fault

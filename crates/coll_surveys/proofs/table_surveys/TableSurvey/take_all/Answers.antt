@@ -1,6 +1,6 @@
 -- What is told of all lines is told behind each other, and then how the text ends.
 use Rattle.coll_devices.specs.PhysicalLines.{lines_of}
-use Rattle.coll_surveys.specs.SurveyedLines.{ended_early, first_lines}
+use Rattle.coll_findings.specs.SurveyedLines.{ended_early, first_lines}
 use Rattle.coll_surveys.specs.TableSurveys.{end_faults, ends_table, lines_faults, survey_state, table_lines, told_of_table}
 use Rattle.coll_surveys.proofs.TableLemmas.{left_to_end, lines_leave, lines_told, told_more_given, told_to_end}
 use Rattle.coll_surveys.proofs.table_surveys.TableSurvey.take_all.Goals as goal

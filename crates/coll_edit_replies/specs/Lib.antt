@@ -1,0 +1,5 @@
+pub mod Help
+pub mod Showing
+pub mod ToldLists
+pub mod WordKeys
+pub mod WordLists

@@ -1,0 +1,2 @@
+pub mod HandedLemmas
+pub mod OnceLemmas

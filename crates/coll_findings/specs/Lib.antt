@@ -1,0 +1,3 @@
+pub mod GatheredWarnings
+pub mod SurveyedLines
+pub mod ToldFaults

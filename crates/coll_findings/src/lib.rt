@@ -1,0 +1,27 @@
+//! What is told of a text whose lines are judged one by one, also behind a fault, and how its lines are handed on for that.
+//!
+//! Faults are told each once (`ToldFaults`), with what they are about and what to do; what a text says to no purpose is told by kinds. The
+//! lines of a text are handed on up to the end of its category, also behind those that the lexer refuses (`SurveyedLines`). What judging a
+//! line gives is for coll_surveys. A way through the crate:
+//!
+//! - `findings`: faults that are told, with `foreign_words`: keywords of other dialects; `subjects`: what a fault is about;
+//! - `warnings`: what a text says to no purpose, by kinds (`GatheredWarnings`); `unplaced`: what is declared and never placed;
+//! - `collecting`: what is told, as it is gathered;
+//! - `line_surveys`: the lines of a text, handed on one after another.
+#![tactic(auto)]
+
+mod collecting;
+mod findings;
+mod foreign_words;
+mod line_surveys;
+mod subjects;
+mod unplaced;
+mod warnings;
+
+pub use collecting::{Collected, Surveyed, Told};
+pub use findings::{About, FoundFault};
+pub use foreign_words::ForeignWord;
+pub use line_surveys::{Opening, TakesLines, survey_keywords, survey_lines};
+pub use subjects::{about_found, about_id, refused_subject, table_subject};
+pub use unplaced::{Declarations, DeclaredName};
+pub use warnings::{Warned, WarnedKind, Warning, Warnings};

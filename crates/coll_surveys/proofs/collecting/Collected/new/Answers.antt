@@ -1,9 +1,0 @@
--- Nothing was told.
-use Rattle.std.proofs.Common.{List, sym, subst}
-use Rattle.coll_surveys.specs.ToldFaults.{AreOnce}
-use Rattle.coll_surveys.specs.declared.findings.FoundFault.{FoundFault}
-use Rattle.coll_surveys.proofs.OnceLemmas.{once_none}
-use Rattle.coll_surveys.proofs.collecting.Collected.new.Goals as goal
-
-pub invariant_of-result : goal.invariant_of-result
-invariant_of-result c = record { once = subst (λ (l : List FoundFault). AreOnce l) (sym c.new.ensures.items) once_none }
