@@ -1,7 +1,7 @@
 -- What is told behind the faults that were told.
 use Rattle.std.proofs.Common.{◌≡◌, ◌≤◌, ◌<◌, ℕ, ◌+◌, List, [], ◌∷◌, ◌++◌, get_or, length, map, take, Option, Some, Result, Ok, Err, refl, sym, ap, ◌∙◌, subst, append_assoc, append-nil, inl, inr}
 use Rattle.std.specs.List.{flat_map}
-use Rattle.std.specs.Prelude.{OnOk}
+use Rattle.std.specs.Prelude.{OnOk, option_map}
 use Rattle.std.proofs.lemmas.Grind.{flat_map-append}
 use Rattle.std.proofs.lemmas.List.{map-append, take_all, take_more}
 use Rattle.coll_syntax.specs.declared.lines.TableLine.{TableLine}
@@ -11,7 +11,7 @@ use Rattle.coll_nodes.specs.TableLayout.{TableValue, collation}
 use Rattle.coll_texts.specs.BuilderStates.{BuilderState, line_fault}
 use Rattle.coll_advice.specs.declared.found.Found.{Found}
 use Rattle.coll_faults.specs.declared.faults.Fault.TheVariants as fault
-use Rattle.coll_surveys.specs.DeltaSurveys.{alone_faults, block_faults, block_left, category_faults, faults_told, open_faults, passed_faults, statement_faults, table_left}
+use Rattle.coll_surveys.specs.DeltaSurveys.{BlockState, alone_faults, block_faults, block_left, block_state, category_faults, faults_told, open_faults, passed_faults, statement_faults, table_left}
 use Rattle.coll_surveys.specs.TableSurveys.{bare_line, judged_faults, judging, line_faults, load_faults, outside_faults, told_of_table}
 use Rattle.coll_findings.specs.ToldFaults.{AreAmong, LineFault, Tells, at_line, told_fault}
 use Rattle.coll_surveys.specs.declared.delta_surveys.DeltaSurvey.{DeltaSurvey}
@@ -76,9 +76,9 @@ alone_told old mid new number s first same second =
     (subst (λ (t : TableValue). Tells (faults_told mid) (faults_told new) (statement_faults (collation t) number [] s)) same second)
 
 -- the end of the category in an open block
-pub category_ended : (table : Collation) (block : Option OpenBlock) (b : OpenBlock) (number : ℕ) → block ≡ Some b
+pub category_ended : (table : Collation) (block : Option BlockState) (b : BlockState) (number : ℕ) → block ≡ Some b
     → category_faults table block number ≡ block_faults table block ++ at_line number fault.BlockNotEnded ∷ []
-category_ended table block b number is = subst (λ (x : Option OpenBlock). category_faults table x number ≡ block_faults table x ++ at_line number fault.BlockNotEnded ∷ []) (sym is) refl
+category_ended table block b number is = subst (λ (x : Option BlockState). category_faults table x number ≡ block_faults table x ++ at_line number fault.BlockNotEnded ∷ []) (sym is) refl
 
 -- a refused line ends what it would end, also behind its own fault
 pub passed_told : {T E : Type 0} (old mid new : DeltaSurvey) (one : LineFault) (opening : Opening) (r : Result T E) → Tells (faults_told old) (faults_told mid) (one ∷ []) → mid.table ≡ old.table
@@ -87,7 +87,7 @@ pub passed_told : {T E : Type 0} (old mid new : DeltaSurvey) (one : LineFault) (
 passed_told old mid new one opening r first table block second =
     told_on_ok (faults_told old) (faults_told mid) (faults_told new) (one ∷ []) (passed_faults (table_left old) (block_left old) opening) r first
     (subst (λ (t : TableValue). OnOk r (Tells (faults_told mid) (faults_told new) (passed_faults (collation t) (block_left old) opening))) table
-    (subst (λ (b : Option OpenBlock). OnOk r (Tells (faults_told mid) (faults_told new) (passed_faults (table_left mid) b opening))) block second))
+    (subst (λ (b : Option OpenBlock). OnOk r (Tells (faults_told mid) (faults_told new) (passed_faults (table_left mid) (option_map block_state b) opening))) block second))
 
 -- one more of a list is told behind those before it
 pub told_more : (a b c : List FoundFault) (f : Found → LineFault) (xs : List Found) (i : ℕ) (x : Found) → i < length xs → x ≡ get_or xs i x → Tells a b (map f (take i xs))

@@ -2,18 +2,25 @@
 //!
 //! The lines of a block are gathered, and judged where it ends, each with its own number. A statement without fault is put to the table,
 //! and a block with faults without the lines at fault, so that what comes behind is judged by as much as possible. A line of the wrong
-//! kind in a block is told, and taken as outside of one.
+//! kind in a block is told, and taken as outside of one. What each line leaves is stated (`left_by` of `specs/DeltaSurveys.antt`), so what
+//! is told of a text is stated as a whole.
 
-ghost use Rattle.std.specs.Prelude.{◌≡◌, ◌∷◌, [], map, IfOk, OnOk};
+ghost use Rattle.std.specs.Prelude.{◌≡◌, ◌∷◌, [], map, Some, IfOk, IfSome, OnOk, option_map};
 ghost use Rattle.coll_lex.specs.Names.{AreTokens};
+ghost use Rattle.coll_syntax.specs.DeltaLines.{delta_line};
+ghost use Rattle.coll_nodes.specs.TableLayout.{collation};
 ghost use Rattle.coll_requests.specs.DeltaFaults.{early_fault};
 ghost use Rattle.coll_faults.specs.Faults.{delta_fault_of};
 ghost use Rattle.coll_faults.specs.declared.faults.Fault.TheVariants as refused;
-ghost use Rattle.coll_findings.specs.ToldFaults.{AreOnce, Tells, at_line};
-ghost use Rattle.coll_surveys.specs.DeltaSurveys.{TellsDeltaLine, alone_faults, block_faults, category_faults, early_faults, end_faults};
-ghost use Rattle.coll_surveys.specs.DeltaSurveys.{ended_faults, ends_delta, faults_of_line, is_delta_end};
-ghost use Rattle.coll_surveys.specs.DeltaSurveys.{block_left, faults_told, found_fault, line_faults, open_faults, order_faults};
-ghost use Rattle.coll_surveys.specs.DeltaSurveys.{passed_faults, refused_faults, statement_faults, table_left};
+ghost use Rattle.coll_findings.specs.ToldFaults.{AreAmong, AreOnce, Tells, at_line, told_fault};
+ghost use Rattle.coll_surveys.specs.DeltaSurveys.{TellsDeltaLine, alone_faults, block_faults, block_left, category_faults, closed};
+ghost use Rattle.coll_surveys.specs.DeltaSurveys.{delta_faults, delta_left, delta_state, early_faults, end_faults};
+ghost use Rattle.coll_surveys.specs.DeltaSurveys.{ended_faults, ended_left};
+ghost use Rattle.coll_surveys.specs.DeltaSurveys.{ended_state, ends_delta, faults_of_line, faults_told, found_fault, is_delta_end};
+ghost use Rattle.coll_surveys.specs.DeltaSurveys.{left_alone, left_by_bare, left_by_line, left_by_order, left_passed, left_read};
+ghost use Rattle.coll_surveys.specs.DeltaSurveys.{line_faults, mended};
+ghost use Rattle.coll_surveys.specs.DeltaSurveys.{open_faults, opened, order_faults, passed_faults, refused_faults, statement_faults};
+ghost use Rattle.coll_surveys.specs.DeltaSurveys.{table_behind, table_behind_block, table_behind_left, table_left, text_faults, text_left};
 
 use crate::open_blocks::{EndedBlock, OpenBlock, line_of};
 use crate::unchanged::changed_nothing;
@@ -41,13 +48,20 @@ struct DeltaSurvey {
 }
 
 /// Surveys a delta file, which is input 1, over a table.
+///
+/// Each fault that is told is one that a line gives, as it is judged over the table and with the block that the lines before it left, or
+/// that the text ends early. They come in the order in which the lines give them; those of a block come where it ends. The table is the
+/// one that all lines leave: with each statement without fault, and of a block with faults the lines without.
 pub fn survey_delta(
     alloc: Global,
     keys: HashKeys,
     table: Table,
     text: &[u8],
 ) -> Result<Surveyed, AllocError>
-    ensures { IfOk result (λ surveyed. AreOnce surveyed.told.faults.items) }
+    ensures once { IfOk result (λ surveyed. AreOnce surveyed.told.faults.items) }
+    ensures told { IfOk result (λ surveyed. AreAmong (map told_fault surveyed.told.faults.items)
+        (delta_faults (collation table) text.now)) }
+    ensures table { IfOk result (λ surveyed. IfSome surveyed.table (λ left. collation left ≡ delta_left (collation table) text.now)) }
 {
     let mut survey = DeltaSurvey {
         alloc,
@@ -61,21 +75,34 @@ pub fn survey_delta(
 }
 
 impl DeltaSurvey {
-    // Takes all lines of a text, tells how it ends where its category doesn't, and warns of what is never placed. A block that is open
-    // at an end like that is judged before.
-    fn take_all(&mut self, text: &[u8]) -> Result<(), AllocError> {
-        let alloc = self.alloc;
-        if let Some(end) = survey_lines(alloc, text, self)? {
-            self.tell_end(end)?;
-        }
+    // Takes all lines of a text, tells how it ends where its category doesn't, and warns of what is never placed.
+    fn take_all(&mut self, text: &[u8]) -> Result<(), AllocError>
+        ensures told { OnOk result (Tells (faults_told self.old) (faults_told self.new) (text_faults (delta_state self.old) text.now)) }
+        ensures left { OnOk result (delta_state self.new ≡ text_left (delta_state self.old) text.now) }
+    {
+        self.take_lines(text)?;
         self.declarations
             .warn_of_unplaced(&self.table, &mut self.told)
     }
 
+    // Takes all lines of a text, and tells how it ends where its category doesn't. A block that is open at an end like that is judged
+    // before.
+    fn take_lines(&mut self, text: &[u8]) -> Result<(), AllocError>
+        ensures told { OnOk result (Tells (faults_told self.old) (faults_told self.new) (text_faults (delta_state self.old) text.now)) }
+        ensures left { OnOk result (delta_state self.new ≡ text_left (delta_state self.old) text.now) }
+    {
+        let alloc = self.alloc;
+        match survey_lines(alloc, text, self)? {
+            Some(end) => self.tell_end(end),
+            None => Ok(()),
+        }
+    }
+
     // Judges the block that is open, if one is, and tells how a text ends of which the category doesn't.
     fn tell_end(&mut self, end: EarlyEnd) -> Result<(), AllocError>
-        ensures { OnOk result (Tells (faults_told self.old) (faults_told self.new)
+        ensures told { OnOk result (Tells (faults_told self.old) (faults_told self.new)
             (early_faults (table_left self.old) (block_left self.old) (early_fault end))) }
+        ensures left { OnOk result (delta_state self.new ≡ closed (delta_state self.old)) }
     {
         self.end_block()?;
         self.tell_fault(DeltaFault::from(end))
@@ -83,15 +110,19 @@ impl DeltaSurvey {
 
     // Tells a fault of the text.
     fn tell_fault(&mut self, fault: DeltaFault) -> Result<(), AllocError>
-        ensures { OnOk result (Tells (faults_told self.old) (faults_told self.new)
+        ensures told { OnOk result (Tells (faults_told self.old) (faults_told self.new)
             (at_line fault.line (delta_fault_of fault.line fault.cause) ∷ [])) }
+        ensures table { self.new.table ≡ self.old.table }
+        ensures block { self.new.block ≡ self.old.block }
     {
         self.tell(fault.line, Fault::from(fault), About::Nothing)
     }
 
     // What a survey gives.
     fn end(self) -> Surveyed
-        ensures { AreOnce result.told.faults.items }
+        ensures once { AreOnce result.told.faults.items }
+        ensures told { result.told.faults.items ≡ faults_told self }
+        ensures table { result.table ≡ Some self.table }
     {
         let DeltaSurvey {
             alloc: _,
@@ -119,8 +150,9 @@ impl DeltaSurvey {
 
     // Takes a line at fault by what it begins with: it may end a block, and open one of which the target isn't known.
     fn pass_over(&mut self, number: u32, opening: Opening) -> Result<(), AllocError>
-        ensures { OnOk result (Tells (faults_told self.old) (faults_told self.new)
+        ensures told { OnOk result (Tells (faults_told self.old) (faults_told self.new)
             (passed_faults (table_left self.old) (block_left self.old) opening)) }
+        ensures left { OnOk result (delta_state self.new ≡ left_passed (delta_state self.old) number opening) }
     {
         match opening {
             Opening::Block => self.open_block(number, None),
@@ -134,7 +166,8 @@ impl DeltaSurvey {
 
     // Notes that the block that is open, if one is, has a line that was refused.
     fn spoil(&mut self)
-        ensures { self.new.told ≡ self.old.told }
+        ensures told { self.new.told ≡ self.old.told }
+        ensures left { delta_state self.new ≡ delta_state self.old }
     {
         if let Some(block) = &mut self.block {
             block.spoiled = true;
@@ -142,11 +175,13 @@ impl DeltaSurvey {
     }
 
     // Takes a line, and answers whether it ends the category. What is told of it is what judging it gives, over the table and with the
-    // block that the lines before it left.
+    // block that the lines before it left, and what it leaves is for those behind it.
     fn take_line(&mut self, line: &Line, opening: Opening) -> Result<bool, AllocError>
         requires { AreTokens line.now.tokens }
         ensures told { OnOk result (Tells (faults_told self.old) (faults_told self.new)
             (faults_of_line (table_left self.old) (block_left self.old) line.now.number opening line.now.tokens)) }
+        ensures left { OnOk result (delta_state self.new
+            ≡ left_read (delta_state self.old) line.now.number opening (delta_line line.now.tokens)) }
         ensures ended { IfOk result (λ ended. ended ≡ ends_delta line.now.tokens) }
     {
         match parse_delta_line(self.alloc, line) {
@@ -170,8 +205,9 @@ impl DeltaSurvey {
         fault: SyntaxFault,
         opening: Opening,
     ) -> Result<(), AllocError>
-        ensures { OnOk result (Tells (faults_told self.old) (faults_told self.new) (at_line line.now.number (refused.Syntax fault)
+        ensures told { OnOk result (Tells (faults_told self.old) (faults_told self.new) (at_line line.now.number (refused.Syntax fault)
             ∷ passed_faults (table_left self.old) (block_left self.old) opening)) }
+        ensures left { OnOk result (delta_state self.new ≡ left_passed (delta_state self.old) line.now.number opening) }
     {
         let about = refused_subject(self.alloc, line, fault)?;
         self.tell(line.number, Fault::Syntax(fault), about)?;
@@ -185,8 +221,9 @@ impl DeltaSurvey {
         opening: Opening,
         fault: LexFault,
     ) -> Result<(), AllocError>
-        ensures { OnOk result (Tells (faults_told self.old) (faults_told self.new)
+        ensures told { OnOk result (Tells (faults_told self.old) (faults_told self.new)
             (at_line number (refused.Lex fault) ∷ passed_faults (table_left self.old) (block_left self.old) opening)) }
+        ensures left { OnOk result (delta_state self.new ≡ left_passed (delta_state self.old) number opening) }
     {
         self.tell(number, Fault::Lex(fault), About::Nothing)?;
         self.pass_over(number, opening)
@@ -194,8 +231,9 @@ impl DeltaSurvey {
 
     // Takes a line that the grammar accepts.
     fn take_read(&mut self, number: u32, line: DeltaLine) -> Result<(), AllocError>
-        ensures { OnOk result (Tells (faults_told self.old) (faults_told self.new)
+        ensures told { OnOk result (Tells (faults_told self.old) (faults_told self.new)
             (line_faults (table_left self.old) (block_left self.old) number line)) }
+        ensures left { OnOk result (delta_state self.new ≡ left_by_line (delta_state self.old) number line) }
     {
         match line {
             DeltaLine::Symbol(name) => self.take_alone(number, Statement::Symbol(name)),
@@ -220,8 +258,9 @@ impl DeltaSurvey {
 
     // Takes a line that is a keyword alone, or of which the rest has no effect.
     fn take_bare(&mut self, number: u32, line: &DeltaLine) -> Result<(), AllocError>
-        ensures { OnOk result (Tells (faults_told self.old) (faults_told self.new)
+        ensures told { OnOk result (Tells (faults_told self.old) (faults_told self.new)
             (line_faults (table_left self.old) (block_left self.old) number line.now)) }
+        ensures left { OnOk result (delta_state self.new ≡ left_by_bare (delta_state self.old) line.now) }
     {
         match line {
             DeltaLine::Script => self.take_idle(number, Some(Warning::ScriptWithoutEffect)),
@@ -247,7 +286,8 @@ impl DeltaSurvey {
 
     // Takes a line that has no effect, and warns of it.
     fn take_idle(&mut self, number: u32, warning: Option<Warning>) -> Result<(), AllocError>
-        ensures { OnOk result (Tells (faults_told self.old) (faults_told self.new) (open_faults (block_left self.old) number)) }
+        ensures told { OnOk result (Tells (faults_told self.old) (faults_told self.new) (open_faults (block_left self.old) number)) }
+        ensures left { delta_state self.new ≡ delta_state self.old }
     {
         self.tell_open(number)?;
         match warning {
@@ -258,8 +298,9 @@ impl DeltaSurvey {
 
     // Takes `END LC_COLLATE`.
     fn end_category(&mut self, number: u32) -> Result<(), AllocError>
-        ensures { OnOk result (Tells (faults_told self.old) (faults_told self.new)
+        ensures told { OnOk result (Tells (faults_told self.old) (faults_told self.new)
             (category_faults (table_left self.old) (block_left self.old) number)) }
+        ensures left { OnOk result (delta_state self.new ≡ closed (delta_state self.old)) }
     {
         match self.block {
             Some(_) => {
@@ -272,8 +313,9 @@ impl DeltaSurvey {
 
     // Takes `reorder-end`.
     fn take_end(&mut self, number: u32) -> Result<(), AllocError>
-        ensures { OnOk result (Tells (faults_told self.old) (faults_told self.new)
+        ensures told { OnOk result (Tells (faults_told self.old) (faults_told self.new)
             (end_faults (table_left self.old) (block_left self.old) number)) }
+        ensures left { OnOk result (delta_state self.new ≡ closed (delta_state self.old)) }
     {
         match self.block {
             Some(_) => self.end_block(),
@@ -283,8 +325,9 @@ impl DeltaSurvey {
 
     // Opens a block behind a target, or of which the target isn't known. It ends the one that is open.
     fn open_block(&mut self, number: u32, target: Option<Id>) -> Result<(), AllocError>
-        ensures { OnOk result (Tells (faults_told self.old) (faults_told self.new)
+        ensures told { OnOk result (Tells (faults_told self.old) (faults_told self.new)
             (block_faults (table_left self.old) (block_left self.old))) }
+        ensures left { OnOk result (delta_state self.new ≡ opened (delta_state self.old) number target) }
     {
         self.end_block()?;
         drop(
@@ -296,8 +339,9 @@ impl DeltaSurvey {
 
     // Takes a statement that is a line of its own.
     fn take_alone(&mut self, number: u32, statement: Statement) -> Result<(), AllocError>
-        ensures { OnOk result (Tells (faults_told self.old) (faults_told self.new)
+        ensures told { OnOk result (Tells (faults_told self.old) (faults_told self.new)
             (alone_faults (table_left self.old) (block_left self.old) number statement)) }
+        ensures left { OnOk result (delta_state self.new ≡ left_alone (delta_state self.old) statement) }
     {
         let taken = self.judge_alone(number, &statement);
         drop(statement);
@@ -306,8 +350,9 @@ impl DeltaSurvey {
 
     // Judges a statement that is a line of its own, and notes what it declares where the table takes it.
     fn judge_alone(&mut self, number: u32, statement: &Statement) -> Result<(), AllocError>
-        ensures { OnOk result (Tells (faults_told self.old) (faults_told self.new)
+        ensures told { OnOk result (Tells (faults_told self.old) (faults_told self.new)
             (alone_faults (table_left self.old) (block_left self.old) number statement.now)) }
+        ensures left { OnOk result (delta_state self.new ≡ left_alone (delta_state self.old) statement.now) }
     {
         self.tell_open(number)?;
         if self.judge(number, statement)? {
@@ -318,7 +363,9 @@ impl DeltaSurvey {
 
     // Notes the name of a symbol or an element that a statement declares.
     fn note(&mut self, number: u32, statement: &Statement) -> Result<(), AllocError>
-        ensures { self.new.told ≡ self.old.told }
+        ensures told { self.new.told ≡ self.old.told }
+        ensures table { self.new.table ≡ self.old.table }
+        ensures block { self.new.block ≡ self.old.block }
     {
         match statement {
             Statement::Symbol(name) => {
@@ -337,8 +384,9 @@ impl DeltaSurvey {
 
     // Takes an order line, in a block or outside of one.
     fn take_order(&mut self, number: u32, order: OrderLine) -> Result<(), AllocError>
-        ensures { OnOk result (Tells (faults_told self.old) (faults_told self.new)
+        ensures told { OnOk result (Tells (faults_told self.old) (faults_told self.new)
             (order_faults (table_left self.old) (block_left self.old) number order)) }
+        ensures left { OnOk result (delta_state self.new ≡ left_by_order (table_left self.old) (block_left self.old) number order) }
     {
         match self.mention(&order.id) {
             Ok(()) => self.put_order(number, order),
@@ -351,8 +399,9 @@ impl DeltaSurvey {
 
     // Puts an order line into the block that is open, and tells the first one that is too many; where none is, it is judged.
     fn put_order(&mut self, number: u32, order: OrderLine) -> Result<(), AllocError>
-        ensures { OnOk result (Tells (faults_told self.old) (faults_told self.new)
+        ensures told { OnOk result (Tells (faults_told self.old) (faults_told self.new)
             (order_faults (table_left self.old) (block_left self.old) number order)) }
+        ensures left { OnOk result (delta_state self.new ≡ left_by_order (table_left self.old) (block_left self.old) number order) }
     {
         match &mut self.block {
             Some(block) if !block.is_full() => block.push(number, order),
@@ -389,8 +438,9 @@ impl DeltaSurvey {
 
     // Ends the block that is open, if one is, and judges it.
     fn end_block(&mut self) -> Result<(), AllocError>
-        ensures { OnOk result (Tells (faults_told self.old) (faults_told self.new)
+        ensures told { OnOk result (Tells (faults_told self.old) (faults_told self.new)
             (block_faults (table_left self.old) (block_left self.old))) }
+        ensures left { OnOk result (delta_state self.new ≡ closed (delta_state self.old)) }
     {
         match self.block.take() {
             Some(block) => self.judge_ended(block.end()),
@@ -400,7 +450,10 @@ impl DeltaSurvey {
 
     // Judges a block that has ended, where its first line wasn't refused.
     fn judge_ended(&mut self, ended: Option<EndedBlock>) -> Result<(), AllocError>
-        ensures { OnOk result (Tells (faults_told self.old) (faults_told self.new) (ended_faults (table_left self.old) ended)) }
+        ensures told { OnOk result (Tells (faults_told self.old) (faults_told self.new)
+            (ended_faults (table_left self.old) (option_map ended_state ended))) }
+        ensures left { OnOk result (table_left self.new ≡ ended_left (table_left self.old) (option_map ended_state ended)) }
+        ensures block { self.new.block ≡ self.old.block }
     {
         match ended {
             Some(mut block) => {
@@ -414,8 +467,10 @@ impl DeltaSurvey {
 
     // Judges a block, and puts it to the table, without the lines that are at fault.
     fn judge_block(&mut self, block: &mut EndedBlock) -> Result<(), AllocError>
-        ensures { OnOk result (Tells (faults_told self.old) (faults_told self.new)
+        ensures told { OnOk result (Tells (faults_told self.old) (faults_told self.new)
             (statement_faults (table_left self.old) block.old.begins block.old.numbers.items block.old.statement)) }
+        ensures left { OnOk result (table_left self.new ≡ table_behind_block (table_left self.old) block.old.statement) }
+        ensures block { self.new.block ≡ self.old.block }
     {
         if !block.statement.is_proper() {
             return Ok(());
@@ -432,8 +487,11 @@ impl DeltaSurvey {
 
     // Tells the faults of a block, and puts what is left of it to the table.
     fn judge_at_fault(&mut self, block: &mut EndedBlock, found: &[Found]) -> Result<(), AllocError>
-        ensures { OnOk result (Tells (faults_told self.old) (faults_told self.new)
+        ensures told { OnOk result (Tells (faults_told self.old) (faults_told self.new)
             (map (found_fault block.old.begins block.old.numbers.items) found.now)) }
+        ensures left { OnOk result (table_left self.new
+            ≡ table_behind_left (table_left self.old) (mended block.old.statement found.now)) }
+        ensures block { self.new.block ≡ self.old.block }
     {
         let left = block.mend(self.alloc, found);
         self.tell_found(block.begins, block.numbers.as_slice(), found)?;
@@ -446,8 +504,10 @@ impl DeltaSurvey {
     // Judges a statement that is no block, and puts it to the table where it has no fault. The answer is whether it has none. In a block
     // that is open it is at fault itself, and no warning is told of it, so that those of blocks and of statements come line by line.
     fn judge(&mut self, number: u32, statement: &Statement) -> Result<bool, AllocError>
-        ensures { OnOk result (Tells (faults_told self.old) (faults_told self.new)
+        ensures told { OnOk result (Tells (faults_told self.old) (faults_told self.new)
             (statement_faults (table_left self.old) number [] statement.now)) }
+        ensures left { OnOk result (table_left self.new ≡ table_behind (table_left self.old) statement.now) }
+        ensures block { self.new.block ≡ self.old.block }
     {
         if !statement.is_proper() {
             return Ok(false);
@@ -471,7 +531,9 @@ impl DeltaSurvey {
         numbers: &[u32],
         found: &[Found],
     ) -> Result<(), AllocError>
-        ensures { OnOk result (Tells (faults_told self.old) (faults_told self.new) (map (found_fault begins numbers.now) found.now)) }
+        ensures told { OnOk result (Tells (faults_told self.old) (faults_told self.new) (map (found_fault begins numbers.now) found.now)) }
+        ensures table { self.new.table ≡ self.old.table }
+        ensures block { self.new.block ≡ self.old.block }
     {
         for fault in found {
             self.tell_one(begins, numbers, fault)?;
@@ -481,7 +543,9 @@ impl DeltaSurvey {
 
     // Tells a fault that was found in a statement like that.
     fn tell_one(&mut self, begins: u32, numbers: &[u32], found: &Found) -> Result<(), AllocError>
-        ensures { OnOk result (Tells (faults_told self.old) (faults_told self.new) (found_fault begins numbers.now found.now ∷ [])) }
+        ensures told { OnOk result (Tells (faults_told self.old) (faults_told self.new) (found_fault begins numbers.now found.now ∷ [])) }
+        ensures table { self.new.table ≡ self.old.table }
+        ensures block { self.new.block ≡ self.old.block }
     {
         let about = about_found(found)?;
         let line = line_of(begins, numbers, found);
@@ -491,8 +555,10 @@ impl DeltaSurvey {
 
     // Puts a statement without fault to the table, and warns where it changes nothing, unless a part of it was refused.
     fn put(&mut self, number: u32, statement: &Statement, spoiled: bool) -> Result<(), AllocError>
-        ensures { OnOk result (Tells (faults_told self.old) (faults_told self.new)
+        ensures told { OnOk result (Tells (faults_told self.old) (faults_told self.new)
             (refused_faults (table_left self.old) number statement.now)) }
+        ensures left { OnOk result (table_left self.new ≡ table_behind (table_left self.old) statement.now) }
+        ensures block { self.new.block ≡ self.old.block }
     {
         if !statement.is_proper() {
             return Ok(());
@@ -513,7 +579,9 @@ impl DeltaSurvey {
 
     // Puts what is left of a block to the table. Where that is refused, the block was told already.
     fn put_mended(&mut self, statement: &Statement) -> Result<(), AllocError>
-        ensures { self.new.told ≡ self.old.told }
+        ensures told { self.new.told ≡ self.old.told }
+        ensures left { OnOk result (table_left self.new ≡ table_behind (table_left self.old) statement.now) }
+        ensures block { self.new.block ≡ self.old.block }
     {
         if !statement.is_proper() {
             return Ok(());

@@ -2,8 +2,8 @@
 //!
 //! A survey judges each line of a text by the lines before it; one that is refused is told and passed over, so that those behind it are
 //! judged by as much as possible. What is told of a line is what judging it gives, over what the lines before it left, each fault once
-//! (`ToldFaults` of coll_findings, which gathers what is told); of a table the public call says so of all lines (`table_faults`). No
-//! clause says that it is all, and tests show that. A way through the crate:
+//! (`ToldFaults` of coll_findings, which gathers what is told); the public calls say so of all lines together (`table_faults`,
+//! `delta_faults`). No clause says that it is all, and tests show that. A way through the crate:
 //!
 //! - `table_surveys`, with `standings` and `table_weights`: a table, line by line (`TableSurveys`, `TableWeights`); `accepted_tables`: one
 //!   without fault;

@@ -1,8 +1,11 @@
 //! A block of a delta file that is surveyed: its lines are gathered, and judged where it ends.
 
-ghost use Rattle.std.specs.Prelude.{◌≡◌, nat_le, length};
+ghost use Rattle.std.specs.Prelude.{◌≡◌, None, Some, if◌then◌else◌, nat_le, length, option_map, OnOk};
+ghost use Rattle.std.specs.List.{list_any};
 ghost use Rattle.coll_requests.specs.Limits.{most_block_lines};
-ghost use Rattle.coll_surveys.specs.DeltaSurveys.{ended_block, line_of as stated_line};
+ghost use Rattle.coll_surveys.specs.DeltaSurveys.{block_state, ended_block, ended_state, first_block, is_of_no_line};
+ghost use Rattle.coll_surveys.specs.DeltaSurveys.{is_of_weights, line_of as stated_line, mended, with_order, without_fault, without_faults};
+ghost use Rattle.coll_surveys.specs.DeltaSurveys.{without_lines};
 
 use coll_advice::Found;
 use coll_lex::ListBuf;
@@ -70,7 +73,9 @@ impl Drop for EndedBlock {
 
 impl OpenBlock {
     /// A block that begins at a line, behind this target.
-    pub fn new(alloc: Global, begins: u32, target: Option<Id>) -> OpenBlock {
+    pub fn new(alloc: Global, begins: u32, target: Option<Id>) -> OpenBlock
+        ensures { block_state result ≡ first_block begins target }
+    {
         OpenBlock {
             begins,
             target,
@@ -89,7 +94,9 @@ impl OpenBlock {
     }
 
     /// Puts an order line behind the others.
-    pub fn push(&mut self, number: u32, line: OrderLine) -> Result<(), AllocError> {
+    pub fn push(&mut self, number: u32, line: OrderLine) -> Result<(), AllocError>
+        ensures { OnOk result (block_state self.new ≡ with_order (block_state self.old) number line) }
+    {
         self.lines.push(line)?;
         self.numbers.push(number)?;
         Ok(())
@@ -97,7 +104,7 @@ impl OpenBlock {
 
     /// What it says, where its first line wasn't refused.
     pub fn end(self) -> Option<EndedBlock>
-        ensures { result ≡ ended_block self }
+        ensures { option_map ended_state result ≡ ended_block (block_state self) }
     {
         let OpenBlock {
             begins,
@@ -132,14 +139,12 @@ impl EndedBlock {
     pub fn mend(&mut self, alloc: Global, found: &[Found]) -> bool
         ensures begins { self.new.begins ≡ self.old.begins }
         ensures numbers { self.new.numbers ≡ self.old.numbers }
+        ensures left { (if result then Some self.new.statement else None) ≡ mended self.old.statement found.now }
     {
-        match &mut self.statement {
-            Statement::Block { target: _, lines } if !is_whole_at_fault(found) => {
-                mend_lines(alloc, lines, found);
-                true
-            }
-            _ => false,
+        if is_whole_at_fault(found) {
+            return false;
         }
+        mend_statement(alloc, &mut self.statement, found)
     }
 }
 
@@ -157,18 +162,37 @@ pub(crate) fn line_of(begins: u32, numbers: &[u32], found: &Found) -> u32
 }
 
 // Whether something is wrong that is no line's.
-fn is_whole_at_fault(found: &[Found]) -> bool {
+fn is_whole_at_fault(found: &[Found]) -> bool
+    ensures { result ≡ list_any is_of_no_line found.now }
+{
     found.iter().any(is_of_no_line)
 }
 
 // Whether a fault is no line's.
-fn is_of_no_line(found: &Found) -> bool {
+fn is_of_no_line(found: &Found) -> bool
+    ensures { result ≡ is_of_no_line found.now }
+{
     found.line.is_none()
+}
+
+// Leaves of a block the lines without fault, as `mend_lines` does, and answers whether it is a block.
+fn mend_statement(alloc: Global, statement: &mut Statement, found: &[Found]) -> bool
+    ensures { (if result then Some statement.new else None) ≡ without_lines statement.old found.now }
+{
+    match statement {
+        Statement::Block { target: _, lines } => {
+            mend_lines(alloc, lines, found);
+            true
+        }
+        _ => false,
+    }
 }
 
 // Leaves the lines without fault, and those without their weights of which these are at fault. It begins with the last fault, so that
 // the lines at fault before stay where they are.
-fn mend_lines(alloc: Global, lines: &mut ListBuf<OrderLine>, found: &[Found]) {
+fn mend_lines(alloc: Global, lines: &mut ListBuf<OrderLine>, found: &[Found])
+    ensures { lines.new ≡ without_faults lines.old found.now }
+{
     let given = std::mem::replace(lines, ListBuf::new(Vec::new(alloc)));
     let mut left = given.into_items();
     for fault in found.iter().rev() {
@@ -178,7 +202,9 @@ fn mend_lines(alloc: Global, lines: &mut ListBuf<OrderLine>, found: &[Found]) {
 }
 
 // Takes a line at fault out of others, or its weights alone, where these are at fault.
-fn mend_line(lines: &mut Vec<OrderLine>, fault: &Found) {
+fn mend_line(lines: &mut Vec<OrderLine>, fault: &Found)
+    ensures { lines.new.items ≡ without_fault lines.old.items fault.now }
+{
     let Some(place) = fault.line else {
         return;
     };
@@ -193,7 +219,9 @@ fn mend_line(lines: &mut Vec<OrderLine>, fault: &Found) {
 }
 
 // Whether the weights alone are at fault of a line with this identifier.
-fn are_weights_at_fault(id: &Id, fault: &Found) -> bool {
+fn are_weights_at_fault(id: &Id, fault: &Found) -> bool
+    ensures { result ≡ is_of_weights fault.now.refusal fault.now.id id.now }
+{
     match fault.refusal {
         Refusal::SymbolWithWeights | Refusal::TooManyWeights | Refusal::WeightNotPlaced => true,
         Refusal::NotDeclared => match &fault.id {
