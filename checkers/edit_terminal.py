@@ -49,6 +49,11 @@ OPEN_BLOCK = (
 )
 NO_COMMENT = "% begins no comment here; behind a line comment_char % it does"
 KEPT_WEIGHTS = "note: line 1 of the block: <U0041> weighs as <U0061> at the first level, and keeps that: to sort it here, move <U0061> behind <U0063>"
+C_BACK = "note: taken back: reorder-after <U0061> .. (1 line)"
+C_AGAIN = "note: put again: reorder-after <U0061> .. (1 line)"
+X_BACK = "note: taken back: collating-symbol <X>"
+ONE_UNWRITTEN = "note: 1 statement stands in no file (:write FILE); another :quit drops it"
+SOME_UNWRITTEN = "note: 2 statements stand in no file (:write FILE); another :quit drops them"
 NO_END = "note: the block before has no reorder-end: it ended where this one begins"
 # Each session: the words behind the program, the steps, what stands on the screen at the end, and the files that are there then.
 SESSIONS = [
@@ -78,13 +83,14 @@ SESSIONS = [
         ["edit", "base.txt", "c_behind_a.txt"],
         [
             (":compare c b", "less\n> "),
-            (":undo", "undone 0\n> "),
+            (":undo", f"undone 0\n{C_BACK}\n> "),
             (":compare c b", "greater\n> "),
             ("# a comment", "> "),
             ("reorder-after \\", "> "),
             ("a", "block> "),
             (":quit", f"refused 62 BlockOpen\n62 BlockOpen: {OPEN_BLOCK}\nblock> "),
             ("reorder-end", "ok 1\n> "),
+            (":quit", f"{ONE_UNWRITTEN}\n> "),
         ],
         ":quit\n",
         "",
@@ -102,7 +108,43 @@ SESSIONS = [
             ("reorder-end", "ok 2\n> "),
         ],
         END,
-        "\n",
+        "\nnote: 2 statements stand in no file, and are lost\n",
+        {},
+    ),
+    # What is taken back and put again, and which statements stand in no file.
+    (
+        ["edit", "base.txt"],
+        [
+            ("reorder-after a", "block> "),
+            ("c", "block> "),
+            ("reorder-end", "ok 1\n> "),
+            (":undo", f"undone 0\n{C_BACK}\n> "),
+            (":redo", f"redone 1\n{C_AGAIN}\n> "),
+            (":redo", "refused 61 NothingToRedo\n61 NothingToRedo: make the statement again\n> "),
+            ("collating-symbol <X>", "ok 2\n> "),
+            (":quit", f"{SOME_UNWRITTEN}\n> "),
+            (":write new.txt", "written 2\n> "),
+            (":withdraw 1", f"withdrawn 1\n{C_BACK}\n> "),
+            (":undo", f"undone 0\n{X_BACK}\n> "),
+            (":undo", "refused 60 NothingToUndo\n60 NothingToUndo: nothing: the table is the one at first\n> "),
+            ("collating-symbol <Y>", "ok 1\n> "),
+            (":quit", f"{ONE_UNWRITTEN}\n> "),
+            ("", "> "),
+            (":quit", f"{ONE_UNWRITTEN}\n> "),
+        ],
+        ":quit\n",
+        "",
+        {},
+    ),
+    # Statements of delta files stand there, and one that was written stands in its file when it is put again.
+    (
+        ["edit", "base.txt", "c_behind_a.txt"],
+        [
+            (":undo", f"undone 0\n{C_BACK}\n> "),
+            (":redo", f"redone 1\n{C_AGAIN}\n> "),
+        ],
+        ":quit\n",
+        "",
         {},
     ),
 ]

@@ -30,6 +30,8 @@ NO_CATEGORY = "write the line LC_COLLATE, with nothing but blanks or a comment b
 NOT_DECLARED = "declare it with collating-symbol"
 WEIGHT_NOT_PLACED = "place what the weight names, anywhere in the table or in the same block"
 NO_END = "write END LC_COLLATE; look whether the text was cut"
+TAILORS = "a source that changes a table, as by reorder-after, goes through collbench import-delta TABLE SOURCE"
+NO_COMMENT = "% begins no comment here; behind a line comment_char % it does"
 READ_FAULT = "look at the file's name, its rights, and the device"
 WRITE_FAULT = "look at the device, and run it again: what was written is a prefix"
 
@@ -127,8 +129,17 @@ RUNS = [
              "  5 | <U0063>", "    | ^^^^^^^", "drop one of the two lines, or move it to another block"),
     of_delta("the target of a block", delta("reorder-after <U0078>", "reorder-end"), "2: 50 TargetNotPlaced",
              "  2 | reorder-after <U0078>", "    |               ^^^^^^^", "place the target first, or name one that is placed"),
+    of_delta("a target that is near", delta("reorder-after <BASF>", "reorder-end"), "2: 50 TargetNotPlaced",
+             "  2 | reorder-after <BASF>", "    |               ^^^^^^", "place the target first, or name one that is placed; is <BASE> meant?"),
+    of_delta("a section that is near", delta("reorder-section-after <PUNKT> <DIGITS>"), "2: 52 NoSuchSection",
+             "  2 | reorder-section-after <PUNKT> <DIGITS>", "    |                       ^^^^^^^",
+             "look for the names with :list; the first section has none; is <PUNCT> meant?"),
     of_delta("a keyword of another dialect in a delta file", delta("", "reset <U0061>"), "3: 20 UnknownStatement",
              "  3 | reset <U0061>", "    | ^^^^^", "reorder-after is meant?"),
+    of_delta("a comment of many sources", delta("", "% A behind c"), "3: 29 BadOperand", "  3 | % A behind c", "    | ^^^^^^^^^^^^", NO_COMMENT),
+    of_delta("the same behind a line", delta("reorder-after a % b"), "2: 22 ExtraOperand", "  2 | reorder-after a % b", "    | ^^^^^^^^^^^^^^^^^^^", NO_COMMENT),
+    of_delta("what is no comment where another character was chosen", "comment_char /\nLC_COLLATE\nreorder-after a % b\nEND LC_COLLATE\n", "3: 22 ExtraOperand",
+             "  3 | reorder-after a % b", "    | ^^^^^^^^^^^^^^^^^^^", EXTRA),
     of_delta("a line that may not stand in a block", block("<U0062>", "collating-symbol <X>"), "4: 62 BlockOpen",
              "  4 | collating-symbol <X>", "    | ^^^^^^^^^^^^^^^^^^^^", "end the block by reorder-end; put the line before it or behind"),
     of_delta("an end of no block", delta("reorder-end"), "2: 69 NoBlock", "  2 | reorder-end", "    | ^^^^^^^^^^^", "write reorder-after, or drop the line"),
@@ -174,6 +185,8 @@ RUNS = [
      "below": ["  4 |  <U0063>..<U0061>", "    |  ^^^^^^^^^^^^^^^^", "write the ends in their order, and alike"]},
     {"shows": "a line of what a source copies", "words": ["import", "in/s.txt"], "files": {"in/s.txt": 'LC_COLLATE\ncopy "letters"\nEND LC_COLLATE\n',
      "in/letters": table("a", "<BASE b")}, "fault": "in/letters:4: 2 OpenSymbol", "below": ["  4 | <BASE b", "    | ^^^^^^^", OPEN_SYMBOL]},
+    {"shows": "a source that changes a table", "words": ["import", "s.txt"], "files": {"s.txt": block("<U0062>")}, "fault": "s.txt:2: 20 UnknownStatement",
+     "below": ["  2 | reorder-after <U0061>", "    | ^^^^^^^^^^^^^", TAILORS]},
     {"shows": "a source that copies itself", "words": ["import", "s.txt"], "files": {"s.txt": 'LC_COLLATE\n copy "s.txt"\nEND LC_COLLATE\n'},
      "fault": "s.txt:2: 80 CopyOfItself", "below": ['  2 |  copy "s.txt"', "    |  ^^^^^^^^^^^^", "take one of the copies away"]},
     {"shows": "a source that isn't there", "words": ["import", "none.txt"], "fault": "none.txt:0: 67 ReadFault",

@@ -83,12 +83,12 @@ taking name words = record (new_app name).top { rules = words }
 abbrev pub taken_by : Subcommand → Shape
 taken_by subcommand = taking (subcommand_name subcommand) (words_of subcommand)
 
--- the subcommands that work on a table or make one
+-- the subcommands that work on a table or make one, in the order of help
 unfoldable pub subcommands : List Subcommand
 subcommands =
-    subcommand.Check ∷ subcommand.Print ∷ subcommand.Export ∷ subcommand.Compile ∷ subcommand.Key ∷ subcommand.Compare
-    ∷ subcommand.Explain ∷ subcommand.Sort ∷ subcommand.Review ∷ subcommand.Lint ∷ subcommand.Session ∷ subcommand.Edit
-    ∷ subcommand.Diff ∷ subcommand.Import ∷ subcommand.ImportDelta ∷ []
+    subcommand.Import ∷ subcommand.ImportDelta ∷ subcommand.Check ∷ subcommand.Lint ∷ subcommand.Edit
+    ∷ subcommand.Review ∷ subcommand.Sort ∷ subcommand.Compare ∷ subcommand.Explain ∷ subcommand.Diff ∷ subcommand.Print
+    ∷ subcommand.Export ∷ subcommand.Key ∷ subcommand.Compile ∷ subcommand.Session ∷ []
 
 -- the name of the subcommand that takes no word
 abbrev pub version_name : Text

@@ -8,7 +8,9 @@ ghost use Rattle.coll_command_line.specs.CommandLine.{table_and_words, table_wor
 ghost use Rattle.coll_command_line.specs.CommandLine.{wanted, with_each};
 ghost use Rattle.coll_command_line.specs.Tasks.{subcommand_name};
 
-use crate::help::{ASKED, COPIES, EDITED, EXAMPLES, EXPLAINED, LINES, LINTED, TOLD};
+use crate::help::{
+    ASKED, COPIES, EDITED, EXAMPLES, EXPLAINED, LINES, LINTED, ORDERS, TAILORS, TOLD,
+};
 use crate::subcommands::{SUBCOMMANDS, Subcommand};
 use clap::{Arg, Command};
 use std::alloc::{AllocError, Global};
@@ -91,7 +93,7 @@ fn taking<'a>(alloc: Global, subcommand: Subcommand) -> Result<Command<'a>, Allo
         | Subcommand::Compile
         | Subcommand::Sort => {
             over_table(alloc, subcommand)?
-                .before_help(COPIES)
+                .after_help(COPIES)
                 .arg(deltas(alloc))
         }
         Subcommand::Key => over_table(alloc, subcommand)?
@@ -164,6 +166,7 @@ fn over_source<'a>(alloc: Global, subcommand: Subcommand) -> Result<Command<'a>,
     let about: &'a str = subcommand.about();
     Command::new(alloc, name)
         .about(about)
+        .after_help(ORDERS)
         .arg(source(alloc))?
         .arg(names(alloc))
 }
@@ -176,6 +179,7 @@ fn over_table_and_source<'a>(
     ensures { IfOk result (λ made. shape_of made ≡ taking (subcommand_name subcommand) table_and_source) }
 {
     over_table(alloc, subcommand)?
+        .after_help(TAILORS)
         .arg(tailoring(alloc))?
         .arg(names(alloc))
 }

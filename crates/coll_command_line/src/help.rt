@@ -1,9 +1,17 @@
 //! What help says beside the words that may stand on a command line: what is to be known before, examples, and what each line means
 //! that a subcommand writes.
 
-/// What help says first of a subcommand that takes delta files.
+/// What help says last of a subcommand that takes delta files.
 pub(crate) const COPIES: &str =
     "A source with `copy` goes through `collbench import-delta` first: in a delta file `copy` has no effect.";
+
+/// What help says last of the subcommand that makes a table of a source.
+pub(crate) const ORDERS: &str =
+    "A source that changes a table, as by `reorder-after`: collbench import-delta TABLE SOURCE";
+
+/// What help says last of the subcommand that makes a delta file of a source.
+pub(crate) const TAILORS: &str =
+    "A source that orders everything, and so makes a TABLE: collbench import SOURCE";
 
 /// What help says last of the subcommands that ask a table for keys and orders, and take no delta file.
 pub(crate) const ASKED: &str =
@@ -79,18 +87,18 @@ A declaration stands there as in a table, as collating-symbol <X>, and the begin
 an entry. A section that moves has a line for its beginning, and one for each of its entries; or all that it went past has.";
 
 pub(crate) const EXAMPLES: &str = "Examples:
+  collbench import iso14651_t1 > common.txt    the table of a published source
+  collbench import-delta common.txt sv_SE      the delta file of a published tailoring, for that table
   collbench check base.txt                     table entries 9 declared 3 sections 2 levels 4
-  collbench print base.txt c_behind_a.txt      the table, in which c goes behind a
-  collbench export base.txt > base.localedef   the table, in the form that localedef takes
-  collbench compile base.txt                   the rank of each entry, and its weights as ranks
-  collbench key base.txt ab                    4 6 | 1 1 | 2 2 | |
+  collbench lint base.txt c_behind_a.txt       all faults of the delta file, and what has no effect in it
+  collbench edit base.txt                      a session for a person; :help says what may be typed
+  collbench review base.txt c_behind_a.txt words.txt  which neighbours among the words each statement parts and joins
+  collbench sort base.txt < words.txt          the words, one a line, in the order of the table
   collbench compare base.txt a A               less
   collbench explain base.txt a A               the elements of both texts, each level, and less
-  collbench sort base.txt < words.txt          the words, one a line, in the order of the table
-  collbench review base.txt c_behind_a.txt words.txt  which neighbours among the words each statement parts and joins
-  collbench lint base.txt c_behind_a.txt       all faults of the delta file, and what has no effect in it
-  collbench session base.txt < lines.txt       a reply to each line
-  collbench edit base.txt                      a session for a person; :help says what may be typed
   collbench diff base.txt other.txt            same, or a line for each difference
-  collbench import iso14651_t1 > common.txt    the table of a published source
-  collbench import-delta common.txt sv_SE      the delta file of a published tailoring, for that table";
+  collbench print base.txt c_behind_a.txt      the table, in which c goes behind a
+  collbench export base.txt > base.localedef   the table, in the form that localedef takes
+  collbench key base.txt ab                    4 6 | 1 1 | 2 2 | |
+  collbench compile base.txt                   the rank of each entry, and its weights as ranks
+  collbench session base.txt < lines.txt       a reply to each line";

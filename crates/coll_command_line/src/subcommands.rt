@@ -4,23 +4,24 @@ ghost use Rattle.std.specs.Prelude.{◌≡◌, ◌≢◌, None, IfSome};
 ghost use Rattle.coll_command_line.specs.Tasks.{subcommand_name};
 ghost use Rattle.coll_command_line.specs.declared.subcommands.Subcommand.{Subcommand};
 
-/// The subcommands that work on a table or make one, in the order in which help tells them.
+/// The subcommands that work on a table or make one, in the order in which help tells them, from what is used first to what is used
+/// seldom: tables are made of sources, looked over, tailored, asked by words, compared and written, and last asked by programs.
 pub(crate) const SUBCOMMANDS: &[Subcommand] = &[
-    Subcommand::Check,
-    Subcommand::Print,
-    Subcommand::Export,
-    Subcommand::Compile,
-    Subcommand::Key,
-    Subcommand::Compare,
-    Subcommand::Explain,
-    Subcommand::Sort,
-    Subcommand::Review,
-    Subcommand::Lint,
-    Subcommand::Session,
-    Subcommand::Edit,
-    Subcommand::Diff,
     Subcommand::Import,
     Subcommand::ImportDelta,
+    Subcommand::Check,
+    Subcommand::Lint,
+    Subcommand::Edit,
+    Subcommand::Review,
+    Subcommand::Sort,
+    Subcommand::Compare,
+    Subcommand::Explain,
+    Subcommand::Diff,
+    Subcommand::Print,
+    Subcommand::Export,
+    Subcommand::Key,
+    Subcommand::Compile,
+    Subcommand::Session,
 ];
 
 /// A subcommand that works on a table, or makes one.
@@ -88,7 +89,7 @@ impl Subcommand {
             Subcommand::Check => "Counts the entries, declarations, sections and levels of a table",
             Subcommand::Print => "Prints a table, in a form that can be read again",
             Subcommand::Export => {
-                "Prints a table in the form that localedef takes, and tells on standard error each symbol behind a character"
+                "Prints a table in the form that localedef takes, and tells on standard error of symbols behind a character"
             }
             Subcommand::Compile => {
                 "Prints the rank of each entry of a table, and its weights as ranks"

@@ -2,3 +2,4 @@ pub mod AskedLemmas
 pub mod EditLemmas
 mod OwnReplyLemmas
 pub mod PutLemmas
+pub mod SignLemmas

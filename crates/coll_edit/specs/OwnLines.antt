@@ -10,8 +10,10 @@ use Rattle.coll_syntax.specs.Identifier.{is_word}
 use Rattle.coll_syntax.specs.Operands.{and_then, ended, id_in, only, read_as, wanted}
 use Rattle.coll_syntax.specs.declared.syntax_faults.SyntaxFault.{SyntaxFault}
 use Rattle.coll_syntax.specs.declared.syntax_faults.SyntaxFault.TheVariants.{BadOperand, MissingOperand}
+use Rattle.coll_edit.specs.WordSigns.{with_signs}
 use Rattle.coll_edit.specs.declared.own_lines.OwnLine.{OwnLine}
 use Rattle.coll_edit.specs.declared.own_lines.OwnLine.TheVariants as own
+use Rattle.coll_edit.specs.declared.word_signs.Before.TheVariants as before
 
 -- a text: a word, a character, or a string without names
 abbrev pub text_in : Token → Result (List ℕ) SyntaxFault
@@ -63,12 +65,16 @@ abbrev pub own_of : List Token → Option OwnLine
 own_of [] = None
 own_of (word ∷ arguments) = own_words word arguments
 
--- the line that a physical line is which a lexer at the beginning of a text answers so
+-- the line that a line is which a lexer at the beginning of a text answers so
 abbrev pub own_fed : Result (Option Line × LexerState) LexFault → Option OwnLine
 own_fed (Ok (Some line, after)) = own_of line.tokens
 own_fed (Ok (None, after)) = None
 own_fed (Err fault) = None
 
--- the line that a physical line is
+-- the line that a line is, read by the lexer as it stands
+abbrev pub own_read : List ℕ → Option OwnLine
+own_read line = own_fed (fed first_state line)
+
+-- the line that a physical line is, in which a `#` within a word is a character of it
 abbrev pub own_line : List ℕ → Option OwnLine
-own_line line = own_fed (fed first_state line)
+own_line line = own_read (with_signs before.Apart line)

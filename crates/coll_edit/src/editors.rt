@@ -4,7 +4,7 @@
 //! before the first line. The session takes each line; the request that it completes is answered by the session, or, where that refuses
 //! it and the line is one of `edit`, by that line.
 
-ghost use Rattle.std.specs.Prelude.{◌≡◌, ◌≢◌, ◌+◌, ◌<◌, ℕ, Bool, [], chars, true, IfErr, IfOk, IfSome, List, Ok, OnOk, Option, Some, option_to_list};
+ghost use Rattle.std.specs.Prelude.{◌≡◌, ◌≢◌, ◌+◌, ◌<◌, ℕ, Bool, true, IfErr, IfOk, IfSome, List, Ok, OnOk, Option, Some, option_to_list};
 ghost use Rattle.coll_devices.specs.Devices.{Sends};
 ghost use Rattle.coll_lex.specs.Limits.{most_lines};
 ghost use Rattle.coll_lex.specs.LogicalLines.{number_of, pending};
@@ -14,7 +14,7 @@ ghost use Rattle.coll_requests.specs.ProperLines.{IsProperRequest};
 ghost use Rattle.coll_syntax.specs.Proper.{IsProper};
 ghost use Rattle.coll_bench.specs.Replies.{refused_lines};
 ghost use Rattle.coll_bench.specs.Serving.{FinishesWith, IsCutOff, history_after_all, replies_to, too_long};
-ghost use Rattle.coll_bench.specs.Serving.{block_of, history_of, lexer_of, write_failed as failed_write};
+ghost use Rattle.coll_bench.specs.Serving.{block_of, history_of, lexer_of};
 ghost use Rattle.coll_history.specs.Histories.{begun, judged, table_now};
 ghost use Rattle.coll_history.specs.declared.history_faults.BenchFault.TheVariants.{HistoryFull};
 ghost use Rattle.coll_table.specs.Delta.{delta as delta_of};
@@ -23,18 +23,21 @@ ghost use Rattle.coll_bench.specs.BatchOutcome.{after_delta, fault_in, judged_at
 ghost use Rattle.coll_bench.specs.BatchReading.{DeltaFails, FailsAs};
 ghost use Rattle.coll_bench.specs.BatchRuns.{ending_of};
 ghost use Rattle.coll_faults.specs.declared.faults.Fault.TheVariants as lex_fault;
-ghost use Rattle.coll_edit.specs.Editing.{AnswersRequest, EditsLine, IsLeft, IsLook, PutsBehind, has_answered as answered_by, run_of};
-ghost use Rattle.coll_delta_texts.specs.DeltaText.{delta_text};
-ghost use Rattle.coll_explanations.specs.Explaining.{Explains};
+ghost use Rattle.coll_edit.specs.Editing.{AnswersRequest, EditsLine, IsLeft, PutsBehind, has_answered as answered_by, run_of};
 ghost use Rattle.coll_edit.specs.EditRuns.{IsUnserved};
-ghost use Rattle.coll_edit.specs.OwnReplies.{SendsAnswer, SendsExplained};
 ghost use Rattle.coll_edit.specs.Watching.{device_of};
 
+mod own_answers;
+
+use crate::changes::{Asked, Told, asked_of, tell_again, tell_back, told_of};
 use crate::copies::copied_statement;
 use crate::devices::OpensFiles;
-use crate::messages::{Hint, Origin, end_prompt, hint_for, prompt, tell_refusal};
+use crate::messages::{
+    Hint, Origin, end_prompt, hint_by_name, hint_for, prompt, tell_refusal, tell_unwritten,
+};
 use crate::notes::{Note, note_on, tell_note, tell_unended};
 use crate::own_lines::{OwnLine, own_line};
+use crate::stored::Stored;
 use crate::typed_lines::{LineFault, TypedLines};
 use crate::watched::Watched;
 use coll_advice::{Found, faults_of};
@@ -42,13 +45,8 @@ use coll_bench::{
     BenchFault, Fault, RunFault, RunState, TakesStatements, read_delta, write_failed,
 };
 use coll_devices::{ReadStop, Sink, Source, WriteStop};
-use coll_edit_replies::{
-    are_few, flush, write_count, write_help, write_number_help, write_refusal, write_shown,
-    write_statements, write_words,
-};
-use coll_explanations::{explain, explain_by_places};
-use coll_lex::{LexFault, TextBuf};
-use coll_requests::{Command, Request, RequestAt, RequestFault, StatementAt};
+use coll_lex::LexFault;
+use coll_requests::{Request, RequestAt, RequestFault, StatementAt};
 use coll_syntax::{Statement, SyntaxFault};
 use coll_table::Table;
 use std::alloc::{AllocError, Global};
@@ -64,6 +62,10 @@ pub struct Editor {
     answered: bool,
     // Whether a statement of a delta file had no room in the history.
     full: bool,
+    // Which statements stand in a file; before the first request all that remain, since they are those of delta files.
+    stored: Option<Stored>,
+    // The line of the last `:quit` that told of statements which stand in no file.
+    warned: Option<u32>,
     alloc: Global,
 }
 
@@ -90,6 +92,8 @@ impl Editor {
                 lines: 0,
                 answered: false,
                 full: false,
+                stored: None,
+                warned: None,
                 alloc,
             }),
             Err(refused) => {
@@ -160,13 +164,14 @@ impl Editor {
         prompt(messages, self.run.is_open());
     }
 
-    /// Serves one physical line.
+    /// Serves one physical line. Where a person is asked for lines, what is taken back, and what was never written, is told.
     pub(crate) fn serve<W: Sink, M: Sink, F: OpensFiles>(
         &mut self,
         line: &[u8],
         output: &mut Watched<W>,
         messages: &mut M,
         files: &mut F,
+        prompts: bool,
     ) -> Result<Next, RunFault>
         ensures ends { IfOk result (λ next. next ≡ Next.End → answered_by self.new ≡ true) }
         ensures served { EditsLine self.old self.new line.now (W.taken (device_of output.old)) (W.taken (device_of output.new)) result }
@@ -176,12 +181,13 @@ impl Editor {
     {
         output.forget();
         let was_open = self.run.is_open();
-        self.typed.read(self.alloc, line);
+        self.typed
+            .read(self.alloc, self.run.session().table(), line);
         match self.run.take(self.alloc, line, output) {
             Ok(request) => {
                 self.lines = self.lines.saturating_add(1);
                 let completes = request.is_some();
-                let served = self.serve_request(line, request, output, messages, files);
+                let served = self.serve_request(line, request, output, messages, files, prompts);
                 self.tell_line(was_open, completes, messages);
                 served
             }
@@ -200,6 +206,7 @@ impl Editor {
         output: &mut Watched<W>,
         messages: &mut M,
         files: &mut F,
+        prompts: bool,
     ) -> Result<Next, RunFault>
         requires { IfSome request (λ completed. IsProperRequest completed.request) }
         ensures ends { IfOk result (λ next. next ≡ Next.End → answered_by self.new ≡ true) }
@@ -212,9 +219,9 @@ impl Editor {
             Some(own) => {
                 drop(request);
                 self.answered = true;
-                self.answer_own(own, output, messages, files)
+                self.answer_own(own, output, messages, files, prompts)
             }
-            None => match self.answer_asked(request, output, messages) {
+            None => match self.answer_asked(request, output, messages, prompts) {
                 Ok(()) => Ok(Next::Line),
                 Err(stop) => Err(write_failed(stop)),
             },
@@ -238,8 +245,89 @@ impl Editor {
         }
     }
 
-    // Answers a request as the session does, and tells what its refusal says.
+    // Answers a request as the session does, and tells what its refusal says, and a person what was taken back or put again.
     fn answer_asked<W: Sink, M: Sink>(
+        &mut self,
+        request: Option<RequestAt>,
+        output: &mut Watched<W>,
+        messages: &mut M,
+        prompts: bool,
+    ) -> Result<(), WriteStop>
+        requires { IfSome request (λ completed. IsProperRequest completed.request) }
+        ensures answered { (starved : Bool)
+            × Sends (W.taken (device_of output.old)) (W.taken (device_of output.new))
+            (replies_to starved (history_of (run_of self.old)) (option_to_list request)) result
+            × (history_of (run_of self.new) ≡ history_after_all starved (history_of (run_of self.old)) (option_to_list request)) }
+        ensures block { block_of (run_of self.new) ≡ block_of (run_of self.old) }
+        ensures parser { lexer_of (run_of self.new) ≡ lexer_of (run_of self.old) }
+        ensures unanswered { answered_by self.new ≡ answered_by self.old }
+    {
+        let asked = asked_of(&request);
+        let before = self.run.session().remaining_len();
+        let back = self.told_back(asked, before, prompts);
+        let answered = self.answer_request(request, output, messages);
+        self.stored = Some(self.stored_behind(asked, before));
+        self.tell_change(asked, before, &back, messages, prompts);
+        drop(back);
+        answered
+    }
+
+    // What is told of the statement that is to be taken back, if one is, and a person is told.
+    fn told_back(&self, asked: Asked, remaining: u32, prompts: bool) -> Option<Told> {
+        let number = match asked {
+            Asked::Undo if prompts => remaining,
+            Asked::Withdrawal(number) if prompts => number,
+            _ => return None,
+        };
+        match self.run.session().remaining(number) {
+            Some(statement) => told_of(self.alloc, statement),
+            None => None,
+        }
+    }
+
+    // Which statements stand in a file behind a request, before which so many remained.
+    fn stored_behind(&self, asked: Asked, before: u32) -> Stored {
+        let now = self.run.session().remaining_len();
+        Stored::noted(self.stored, before).behind_request(asked, before, now)
+    }
+
+    // Tells a person what a request took back or put again, before which so many remained.
+    fn tell_change<M: Sink>(
+        &self,
+        asked: Asked,
+        before: u32,
+        back: &Option<Told>,
+        messages: &mut M,
+        prompts: bool,
+    ) {
+        if !prompts {
+            return;
+        }
+        let session = self.run.session();
+        let now = session.remaining_len();
+        match (asked, back) {
+            (Asked::Undo | Asked::Withdrawal(_), Some(told)) if now < before => {
+                tell_back(messages, told)
+            }
+            (Asked::Redo, _) if now > before => {
+                if let Some(statement) = session.remaining(now) {
+                    self.tell_put_again(statement, messages);
+                }
+            }
+            _ => {}
+        }
+    }
+
+    // Tells that a statement was put again.
+    fn tell_put_again<M: Sink>(&self, statement: &Statement, messages: &mut M) {
+        if let Some(told) = told_of(self.alloc, statement) {
+            tell_again(messages, &told);
+            drop(told);
+        }
+    }
+
+    // Answers a request as the session does, and tells what its refusal says.
+    fn answer_request<W: Sink, M: Sink>(
         &mut self,
         request: Option<RequestAt>,
         output: &mut Watched<W>,
@@ -318,7 +406,7 @@ impl Editor {
     {
         let is_open = self.run.is_open();
         if let Some(fault) = self.typed.untold(was_open, is_open, completes) {
-            let hint = hint_for(self.typed.wish(), fault.number);
+            let hint = self.hint(fault.number);
             let table = self.run.session().table();
             tell_refusal(messages, table, fault.number, origin_in(fault), hint);
         }
@@ -345,11 +433,19 @@ impl Editor {
         let table = self.run.session().table();
         let hint = match output.needed_by() {
             Some(statement) => Hint::NeededBy(statement),
-            None => hint_for(self.typed.wish(), number),
+            None => self.hint(number),
         };
         match first_with(found, number) {
             Some(found) => tell_refusal(messages, table, number, Origin::Found(found), hint),
             None => tell_refusal(messages, table, number, Origin::Here, hint),
+        }
+    }
+
+    // What to do about a refusal of the line that was taken last, where more is known than its number.
+    fn hint(&self, number: u8) -> Hint<'_> {
+        match hint_for(self.typed.wish(), number) {
+            Hint::Nothing => hint_by_name(self.typed.name(), number),
+            hint => hint,
         }
     }
 
@@ -374,301 +470,17 @@ impl Editor {
         }
     }
 
-    // Answers a line of `edit`.
-    fn answer_own<W: Sink, M: Sink, F: OpensFiles>(
-        &mut self,
-        own: OwnLine,
-        output: &mut Watched<W>,
-        messages: &mut M,
-        files: &mut F,
-    ) -> Result<Next, RunFault>
-        ensures history { history_of (run_of self.new) ≡ history_of (run_of self.old) }
-        ensures block { block_of (run_of self.new) ≡ block_of (run_of self.old) }
-        ensures parser { lexer_of (run_of self.new) ≡ lexer_of (run_of self.old) }
-        ensures answered { answered_by self.new ≡ answered_by self.old }
-        ensures input { IfErr result (λ ended. ended.input ≡ 0) }
-    {
-        match own {
-            OwnLine::Key(text) => self.answer_command(Command::Key(text), output, messages),
-            OwnLine::Compare(text, other) => {
-                self.answer_command(Command::Compare(text, other), output, messages)
-            }
-            own => {
-                let answered = self.answer_lent(&own, output, messages, files);
-                drop(own);
-                answered
-            }
-        }
-    }
-
-    // Answers a line of `edit` that is no command of the session.
-    fn answer_lent<W: Sink, M: Sink, F: OpensFiles>(
-        &mut self,
-        own: &OwnLine,
-        output: &mut Watched<W>,
-        messages: &mut M,
-        files: &mut F,
-    ) -> Result<Next, RunFault>
-        ensures history { history_of (run_of self.new) ≡ history_of (run_of self.old) }
-        ensures block { block_of (run_of self.new) ≡ block_of (run_of self.old) }
-        ensures parser { lexer_of (run_of self.new) ≡ lexer_of (run_of self.old) }
-        ensures answered { answered_by self.new ≡ answered_by self.old }
-        ensures input { IfErr result (λ ended. ended.input ≡ 0) }
-    {
-        match own {
-            OwnLine::Quit => Ok(Next::End),
-            OwnLine::Words(name) => self.answer_words(name.get(), output, messages, files),
-            OwnLine::Write(name) => self.answer_write(name.get(), output, messages, files),
-            _ => {
-                self.give_places(own);
-                self.answer_table(own, output, messages)
-            }
-        }
-    }
-
-    // Answers a command of the session.
-    fn answer_command<W: Sink, M: Sink>(
-        &mut self,
-        command: Command,
-        output: &mut Watched<W>,
-        messages: &mut M,
-    ) -> Result<Next, RunFault>
-        requires { IsLook command }
-        ensures history { history_of (run_of self.new) ≡ history_of (run_of self.old) }
-        ensures block { block_of (run_of self.new) ≡ block_of (run_of self.old) }
-        ensures parser { lexer_of (run_of self.new) ≡ lexer_of (run_of self.old) }
-        ensures answered { answered_by self.new ≡ answered_by self.old }
-        ensures input { IfErr result (λ ended. ended.input ≡ 0) }
-    {
-        let request = RequestAt {
-            line: self.lines,
-            request: Request::Command(command),
+    // Tells what the refusal of a line of `edit` says that was told, if one was.
+    fn tell_own<W: Sink, M: Sink>(&self, own: &OwnLine, output: &Watched<W>, messages: &mut M) {
+        let Some(number) = output.refusal() else {
+            return;
         };
-        match self.answer_asked(Some(request), output, messages) {
-            Ok(()) => Ok(Next::Line),
-            Err(stop) => Err(write_failed(stop)),
-        }
-    }
-
-    // Gives the entries their places, where a line of `edit` looks something up by them. Where memory is refused there are none, and
-    // it goes without.
-    fn give_places(&mut self, own: &OwnLine)
-        ensures { self.new ≡ self.old }
-    {
-        match own {
-            OwnLine::Show(_) => {
-                let _ = self.run.give_places(1);
-            }
-            OwnLine::Explain(text, other) => {
-                let looks = characters_in(text, other);
-                if are_few(self.run.session().table(), looks) {
-                    let _ = self.run.give_places(looks);
-                }
-            }
-            _ => {}
-        }
-    }
-
-    // Answers a line of `edit` that asks for nothing but the table and the history.
-    fn answer_table<W: Sink, M: Sink>(
-        &self,
-        own: &OwnLine,
-        output: &mut Watched<W>,
-        messages: &mut M,
-    ) -> Result<Next, RunFault>
-        ensures sent { SendsAnswer (history_of (run_of self.now)) own.now (W.taken (device_of output.old))
-            (W.taken (device_of output.new)) result }
-        ensures input { IfErr result (λ ended. ended.input ≡ 0) }
-    {
-        let wrote = self.write_answer(own, output);
-        self.tell_told(output, messages, origin_of(own));
-        match wrote {
-            Ok(()) => Ok(Next::Line),
-            Err(stop) => Err(write_failed(stop)),
-        }
-    }
-
-    // Writes the answer to a line of `edit` that asks for nothing but the table and the history.
-    fn write_answer<W: Sink>(&self, own: &OwnLine, output: &mut Watched<W>) -> Result<(), WriteStop>
-        ensures { SendsAnswer (history_of (run_of self.now)) own.now (W.taken (device_of output.old)) (W.taken (device_of output.new)) result }
-    {
-        match own {
-            OwnLine::Show(id) => {
-                write_shown(output, self.run.session().table(), self.run.places(), id)
-            }
-            OwnLine::Explain(text, other) => self.write_explained(text, other, output),
-            OwnLine::Delta => self.write_delta(output),
-            OwnLine::Help => write_help(output),
-            OwnLine::HelpNumber(number) => write_number_help(output, number.get()),
-            OwnLine::Wrong(fault) => write_refusal(output, Fault::Syntax(*fault)),
-            _ => Ok(()),
-        }
-    }
-
-    // Writes the statements that remain, and flushes them.
-    fn write_delta<W: Sink>(&self, output: &mut Watched<W>) -> Result<(), WriteStop>
-        ensures sent { Sends (W.taken (device_of output.old)) (W.taken (device_of output.new))
-            (delta_text [] (history_of (run_of self.now)).remaining) result }
-        ensures flushed { OnOk result (W.flushed (device_of output.new) ≡ true) }
-    {
-        write_statements(output, self.run.session())?;
-        flush(output)
-    }
-
-    // Writes why two texts compare as they do, and flushes it.
-    fn write_explained<W: Sink>(
-        &self,
-        text: &TextBuf,
-        other: &TextBuf,
-        output: &mut Watched<W>,
-    ) -> Result<(), WriteStop>
-        ensures sent { SendsExplained (table_now (history_of (run_of self.now))) text.now other.now (W.taken (device_of output.old))
-            (W.taken (device_of output.new)) result }
-        ensures flushed { OnOk result (W.flushed (device_of output.new) ≡ true) }
-    {
-        match self.explained(text.get(), other.get(), output) {
-            Ok(()) => flush(output),
-            Err(ended) => match ended.fault {
-                Fault::Write(stop) => Err(stop),
-                fault => write_refusal(output, fault),
-            },
-        }
-    }
-
-    // Writes an explanation, by the places of the entries where these are known.
-    fn explained<W: Sink>(
-        &self,
-        text: &str,
-        other: &str,
-        output: &mut Watched<W>,
-    ) -> Result<(), RunFault>
-        ensures { Explains (table_now (history_of (run_of self.now))) (chars text.now) (chars other.now) (W.taken (device_of output.old))
-            (W.taken (device_of output.new)) result }
-    {
+        let hint = match own {
+            OwnLine::Wrong(_) => hint_by_name(self.typed.name(), number),
+            _ => Hint::Nothing,
+        };
         let table = self.run.session().table();
-        match self.run.places() {
-            Some(places) => explain_by_places(self.alloc, table, places, text, other, output),
-            None => explain(self.alloc, table, text, other, output),
-        }
-    }
-
-    // Answers `:write`: the statements that remain go into a new file.
-    fn answer_write<W: Sink, M: Sink, F: OpensFiles>(
-        &self,
-        name: &str,
-        output: &mut Watched<W>,
-        messages: &mut M,
-        files: &mut F,
-    ) -> Result<Next, RunFault>
-        ensures { IfErr result (λ ended. ended.input ≡ 0) }
-    {
-        match files.create(name) {
-            Ok(mut file) => {
-                let wrote = self.write_file(&mut file);
-                drop(file);
-                self.reply_written(wrote, output, messages)
-            }
-            Err(reason) => {
-                let fault = Fault::Write(WriteStop::WriteFault);
-                self.reply_fault(fault, Origin::Unopened(name, reason), output, messages)
-            }
-        }
-    }
-
-    // Writes the statements that remain into a file.
-    fn write_file<O: Sink>(&self, file: &mut O) -> Result<(), WriteStop> {
-        write_statements(file, self.run.session())?;
-        flush(file)
-    }
-
-    // Replies to `:write`.
-    fn reply_written<W: Sink, M: Sink>(
-        &self,
-        wrote: Result<(), WriteStop>,
-        output: &mut Watched<W>,
-        messages: &mut M,
-    ) -> Result<Next, RunFault>
-        ensures { IfErr result (λ ended. ended.input ≡ 0) }
-    {
-        let replied = match wrote {
-            Ok(()) => {
-                let count = u64::from(self.run.session().remaining_len());
-                write_count(output, b"written", count)
-            }
-            Err(stop) => write_refusal(output, Fault::Write(stop)),
-        };
-        self.tell_told(output, messages, Origin::Here);
-        match replied {
-            Ok(()) => Ok(Next::Line),
-            Err(stop) => Err(write_failed(stop)),
-        }
-    }
-
-    // Answers `:words`: the words of a file in the order now.
-    fn answer_words<W: Sink, M: Sink, F: OpensFiles>(
-        &mut self,
-        name: &str,
-        output: &mut Watched<W>,
-        messages: &mut M,
-        files: &mut F,
-    ) -> Result<Next, RunFault>
-        ensures history { history_of (run_of self.new) ≡ history_of (run_of self.old) }
-        ensures block { block_of (run_of self.new) ≡ block_of (run_of self.old) }
-        ensures parser { lexer_of (run_of self.new) ≡ lexer_of (run_of self.old) }
-        ensures answered { answered_by self.new ≡ answered_by self.old }
-        ensures input { IfErr result (λ ended. ended.input ≡ 0) }
-    {
-        match files.open(name) {
-            Ok(mut file) => {
-                let wrote = write_words(self.alloc, &mut self.run, &mut file, output);
-                drop(file);
-                self.reply_words(name, wrote, output, messages)
-            }
-            Err(reason) => {
-                let fault = Fault::Read(ReadStop::ReadFault);
-                self.reply_fault(fault, Origin::Unopened(name, reason), output, messages)
-            }
-        }
-    }
-
-    // Replies to `:words` where a line is at fault, a read fails or memory is refused.
-    fn reply_words<W: Sink, M: Sink>(
-        &self,
-        name: &str,
-        wrote: Result<(), RunFault>,
-        output: &mut Watched<W>,
-        messages: &mut M,
-    ) -> Result<Next, RunFault>
-        ensures { IfErr result (λ ended. ended.input ≡ 0) }
-    {
-        match wrote {
-            Ok(()) => Ok(Next::Line),
-            Err(ended) => match ended.fault {
-                Fault::Write(stop) => Err(write_failed(stop)),
-                fault => {
-                    let origin = Origin::File(name, ended.line);
-                    self.reply_fault(fault, origin, output, messages)
-                }
-            },
-        }
-    }
-
-    // Replies that something is refused.
-    fn reply_fault<W: Sink, M: Sink>(
-        &self,
-        fault: Fault,
-        origin: Origin<'_>,
-        output: &mut Watched<W>,
-        messages: &mut M,
-    ) -> Result<Next, RunFault>
-        ensures { IfErr result (λ ended. ended.input ≡ 0) }
-    {
-        let replied = write_refusal(output, fault);
-        self.tell_told(output, messages, origin);
-        match replied {
-            Ok(()) => Ok(Next::Line),
-            Err(stop) => Err(write_failed(stop)),
-        }
+        tell_refusal(messages, table, number, origin_of(own), hint);
     }
 
     /// Ends the edit with its text.
@@ -689,7 +501,16 @@ impl Editor {
         output.forget();
         let ended = self.run.finish(output);
         self.tell_told(output, messages, Origin::Here);
+        self.tell_lost(messages, prompts);
         ended
+    }
+
+    // Tells a person how many statements stand in no file, where any do.
+    fn tell_lost<M: Sink>(&self, messages: &mut M, prompts: bool) {
+        let missing = self.unwritten();
+        if prompts && missing > 0 {
+            tell_unwritten(messages, missing, true);
+        }
     }
 
     /// Ends the edit where no further line could be read.
@@ -745,12 +566,6 @@ fn no_memory_at(input: usize, line: u32) -> RunFault
         line,
         fault: Fault::Lex(LexFault::OutOfMemory),
     }
-}
-
-// How many characters two texts have together.
-fn characters_in(text: &TextBuf, other: &TextBuf) -> usize {
-    let count = text.get().chars().count();
-    count.saturating_add(other.get().chars().count())
 }
 
 // Where the refusal of a line of `edit` comes from.

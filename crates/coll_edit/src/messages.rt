@@ -4,7 +4,7 @@
 //! and no fault of a session counts it.
 
 use crate::devices::FileReason;
-use crate::typed_lines::Wish;
+use crate::typed_lines::{ForeignWord, Wish};
 use coll_advice::{Found, advice_of, nearest_name, nearest_section, write_advice};
 use coll_devices::{Sink, WriteStop};
 use coll_syntax::Id;
@@ -43,6 +43,35 @@ pub(crate) fn end_prompt<M: Sink>(messages: &mut M) {
     let _ = messages.flush();
 }
 
+/// Tells that so many statements that remain stand in no file, and what may be done while the edit goes on.
+pub(crate) fn tell_unwritten<M: Sink>(messages: &mut M, count: u32, ended: bool) {
+    let said: &[u8] = match (count, ended) {
+        (1, false) => ONE_UNWRITTEN,
+        (_, false) => SOME_UNWRITTEN,
+        (1, true) => ONE_LOST,
+        (_, true) => SOME_LOST,
+    };
+    let _ = write_pieces(
+        messages,
+        &[
+            Piece::Bytes(b"note: "),
+            Piece::Number(u64::from(count)),
+            Piece::Bytes(said),
+        ],
+    );
+    let _ = messages.flush();
+}
+
+const ONE_UNWRITTEN: &[u8] =
+    b" statement stands in no file (:write FILE); another :quit drops it\n";
+
+const SOME_UNWRITTEN: &[u8] =
+    b" statements stand in no file (:write FILE); another :quit drops them\n";
+
+const ONE_LOST: &[u8] = b" statement stands in no file, and is lost\n";
+
+const SOME_LOST: &[u8] = b" statements stand in no file, and are lost\n";
+
 /// Where a refusal comes from.
 #[derive(Clone, Copy)]
 pub(crate) enum Origin<'a> {
@@ -62,7 +91,7 @@ pub(crate) enum Origin<'a> {
 
 /// What to do, where more is known than the number of a refusal.
 #[derive(Clone, Copy)]
-pub(crate) enum Hint {
+pub(crate) enum Hint<'a> {
     /// No more is.
     Nothing,
     /// This command is meant.
@@ -73,10 +102,22 @@ pub(crate) enum Hint {
     Comment,
     /// The statement with this number needs the one that was to be withdrawn.
     NeededBy(u32),
+    /// This declared name is meant, which stands there without its brackets.
+    Name(&'a str),
+    /// A keyword is meant for which another dialect has this one.
+    Foreign(ForeignWord),
+}
+
+/// What to do about a refusal with a number, where a line has this name without its brackets, if it has one.
+pub(crate) fn hint_by_name(name: Option<&str>, number: u8) -> Hint<'_> {
+    match name {
+        Some(name) if number == UNKNOWN_STATEMENT || number == BAD_OPERAND => Hint::Name(name),
+        _ => Hint::Nothing,
+    }
 }
 
 /// What to do about a refusal with a number, where a line asks for something in this way.
-pub(crate) fn hint_for(wish: Wish, number: u8) -> Hint {
+pub(crate) fn hint_for(wish: Wish, number: u8) -> Hint<'static> {
     match wish {
         Wish::Nothing => Hint::Nothing,
         Wish::Help => meant(":help", number),
@@ -85,11 +126,13 @@ pub(crate) fn hint_for(wish: Wish, number: u8) -> Hint {
         Wish::EndHere => Hint::Nothing,
         Wish::Comment if is_of_line(number) => Hint::Comment,
         Wish::Comment => Hint::Nothing,
+        Wish::Foreign(word) if number == UNKNOWN_STATEMENT => Hint::Foreign(word),
+        Wish::Foreign(_) => Hint::Nothing,
     }
 }
 
 // That a command is meant, where a word or a character is refused as what it isn't.
-fn meant(command: &'static str, number: u8) -> Hint {
+fn meant(command: &'static str, number: u8) -> Hint<'static> {
     if number == UNKNOWN_STATEMENT || number == NOT_PLACED || number == NO_WEIGHTS {
         return Hint::Meant(command);
     }
@@ -110,7 +153,7 @@ pub(crate) fn tell_refusal<M: Sink>(
     table: &Table,
     number: u8,
     origin: Origin<'_>,
-    hint: Hint,
+    hint: Hint<'_>,
 ) {
     let _ = write_told(messages, table, number, origin, hint);
     let _ = messages.flush();
@@ -122,7 +165,7 @@ fn write_told<M: Sink>(
     table: &Table,
     number: u8,
     origin: Origin<'_>,
-    hint: Hint,
+    hint: Hint<'_>,
 ) -> Result<(), WriteStop> {
     let Some(advice) = advice_of(number) else {
         return Ok(());
@@ -142,6 +185,8 @@ fn write_told<M: Sink>(
         Hint::OpenBlock => write_pieces(messages, &[Piece::Bytes(OPEN_BLOCK)]),
         Hint::Comment => write_pieces(messages, &[Piece::Bytes(NO_COMMENT)]),
         Hint::NeededBy(number) => write_needed(messages, number),
+        Hint::Name(name) => write_bracketed(messages, name),
+        Hint::Foreign(word) => write_foreign(messages, word),
     }
 }
 
@@ -160,6 +205,32 @@ fn write_meant<M: Sink>(messages: &mut M, command: &str) -> Result<(), WriteStop
             Piece::Bytes(b": is "),
             Piece::Bytes(command.as_bytes()),
             Piece::Bytes(b" meant?\n"),
+        ],
+    )
+}
+
+// Writes which name is meant, between its brackets.
+fn write_bracketed<M: Sink>(messages: &mut M, name: &str) -> Result<(), WriteStop> {
+    write_pieces(
+        messages,
+        &[
+            Piece::Bytes(b": is "),
+            Piece::Symbol(name),
+            Piece::Bytes(b" meant?\n"),
+        ],
+    )
+}
+
+// Writes which keyword is meant, as a lint does.
+fn write_foreign<M: Sink>(messages: &mut M, word: ForeignWord) -> Result<(), WriteStop> {
+    write_pieces(
+        messages,
+        &[
+            Piece::Bytes(b" "),
+            Piece::Bytes(word.theirs.as_bytes()),
+            Piece::Bytes(b": "),
+            Piece::Bytes(word.ours.as_bytes()),
+            Piece::Bytes(b" is meant?\n"),
         ],
     )
 }

@@ -1,7 +1,7 @@
 //! The lines that stand beside those of a session: what each of them asks for.
 //!
-//! Such a line is one physical line, and is read with `#` and `\`, whichever characters the text has chosen, so that a name of a file is
-//! spelled as it is. A new line is a variant of `OwnLine`, a case of `own_words` and of `own_words` in `specs/OwnLines.antt`, of
+//! Such a line is one physical line, and is read with `#` and `\`, whichever characters the text has chosen, and with each `#` within a
+//! word as a character of it (`word_signs`), so that a name of a file is spelled as it is. A new line is a variant of `OwnLine`, a case of `own_words` and of `own_words` in `specs/OwnLines.antt`, of
 //! `answer_lent` or `answer_table` in `editors`, and a line of the help.
 
 ghost use Rattle.std.specs.Prelude.{◌≡◌, ◌≢◌, Ok, Err, Some, IfOk, IfErr, Result};
@@ -9,11 +9,12 @@ ghost use Rattle.coll_lex.specs.LogicalLines.{first_state};
 ghost use Rattle.coll_syntax.specs.Operands.{only, id_in, read_as};
 ghost use Rattle.coll_syntax.specs.declared.syntax_faults.SyntaxFault.{SyntaxFault};
 ghost use Rattle.coll_syntax.specs.declared.syntax_faults.SyntaxFault.TheVariants as syntax;
-ghost use Rattle.coll_edit.specs.OwnLines.{own_line as stated_line, own_of as stated_of, own_words as stated_words};
+ghost use Rattle.coll_edit.specs.OwnLines.{own_line as stated_line, own_of as stated_of, own_read as stated_read, own_words as stated_words};
 ghost use Rattle.coll_edit.specs.OwnLines.{argued as stated_argued, if_fits as stated_fits, text_in, two_texts as stated_two, help_of};
 ghost use Rattle.coll_edit.specs.declared.own_lines.OwnLine.{OwnLine};
 ghost use Rattle.coll_edit.specs.declared.own_lines.OwnLine.TheVariants as own;
 
+use crate::word_signs::with_signs;
 use coll_lex::{LexFault, Lexer, Piece, TextBuf, Token};
 use coll_syntax::{Id, SyntaxFault, characters, ended, id_of, is_word};
 use std::alloc::Global;
@@ -49,6 +50,20 @@ pub enum OwnLine {
 pub(crate) fn own_line(alloc: Global, line: &[u8]) -> Option<OwnLine>
     ensures { result ≢ Some (own.Wrong syntax.OutOfMemory) → result ≡ stated_line line.now }
 {
+    match with_signs(alloc, line) {
+        Ok(line) => {
+            let read = read_alone(alloc, line.as_slice());
+            drop(line);
+            read
+        }
+        Err(_) => Some(OwnLine::Wrong(SyntaxFault::OutOfMemory)),
+    }
+}
+
+// The line of `edit` that a line with its signs is, if it is one.
+fn read_alone(alloc: Global, line: &[u8]) -> Option<OwnLine>
+    ensures { result ≢ Some (own.Wrong syntax.OutOfMemory) → result ≡ stated_read line.now }
+{
     match Lexer::new(alloc) {
         Ok(mut lexer) => {
             let read = read_line(alloc, &mut lexer, line);
@@ -59,10 +74,10 @@ pub(crate) fn own_line(alloc: Global, line: &[u8]) -> Option<OwnLine>
     }
 }
 
-// The line of `edit` that a physical line is, by a lexer that no line was handed to.
+// The line of `edit` that a line with its signs is, by a lexer that no line was handed to.
 fn read_line(alloc: Global, lexer: &mut Lexer, line: &[u8]) -> Option<OwnLine>
     requires { lexer.old ≡ first_state }
-    ensures { result ≢ Some (own.Wrong syntax.OutOfMemory) → result ≡ stated_line line.now }
+    ensures { result ≢ Some (own.Wrong syntax.OutOfMemory) → result ≡ stated_read line.now }
 {
     match lexer.feed(line) {
         Ok(Some(line)) => {

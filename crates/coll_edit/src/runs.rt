@@ -64,7 +64,7 @@ fn serve_lines<R: Source, W: Sink, M: Sink, F: OpensFiles>(
     'lines: loop {
         ask(editor, messages, prompts);
         match reader.advance(input) {
-            Ok(true) => match editor.serve(reader.line(), output, messages, files) {
+            Ok(true) => match editor.serve(reader.line(), output, messages, files, prompts) {
                 Ok(Next::Line) => {}
                 Ok(Next::End) => return Ok(()),
                 Err(ended) => return Err(ended),

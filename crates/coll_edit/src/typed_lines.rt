@@ -3,13 +3,15 @@
 //! A session answers an open block where it ends, with the first fault that spoiled it. A person is told of each line at fault once,
 //! and at once. So each line is read here as well, by a lexer of its own, which reads what the session's does. What is found is for
 //! standard error alone, and changes no reply; where memory is refused, nothing is found. A word that other programs take for `:help`
-//! or `:quit` is found here too, and `%`, with which comments of many sources begin.
+//! or `:quit` is found here too, `%`, with which comments of many sources begin, a declared name without its brackets, and a keyword of
+//! another dialect.
 
 ghost use Rattle.coll_lex.specs.Names.{AreTokens};
 
-use coll_lex::{LexFault, Lexer, Line, Token};
+use coll_lex::{LexFault, Lexer, Line, TextBuf, Token};
 use coll_requests::RequestFault;
 use coll_syntax::{DeltaLine, MOST_BLOCK_LINES, SyntaxFault, is_word, parse_delta_line};
+use coll_table::Table;
 use std::alloc::{AllocError, Global};
 
 // What a line is to a block.
@@ -40,7 +42,29 @@ pub(crate) enum Wish {
     EndHere,
     /// A comment, by `%`, where that begins none.
     Comment,
+    /// What another dialect has a keyword for.
+    Foreign(ForeignWord),
 }
+
+/// A keyword of another dialect, and the one that stands for it here.
+#[derive(Clone, Copy)]
+pub(crate) struct ForeignWord {
+    /// The keyword as the other dialect spells it.
+    pub theirs: &'static str,
+    /// The keyword of a delta.
+    pub ours: &'static str,
+}
+
+// The keywords of other dialects for which one of a delta stands, as a lint tells them.
+const FOREIGN: &[(&str, &str)] = &[
+    ("reset", "reorder-after"),
+    ("reset-after", "reorder-after"),
+    ("reorder_after", "reorder-after"),
+    ("reorder_end", "reorder-end"),
+    ("collating_symbol", "collating-symbol"),
+    ("collating_element", "collating-element"),
+    ("symbol_equivalence", "symbol-equivalence"),
+];
 
 /// A fault of a line that no reply tells where the line is typed.
 #[derive(Clone, Copy)]
@@ -57,6 +81,8 @@ pub(crate) struct TypedLines {
     lexer: Lexer,
     last: TypedLine,
     wish: Wish,
+    // The first declared name that the last line has without its brackets, where it may be refused for that.
+    name: Option<TextBuf>,
     // How many lines the block has, those at fault too.
     lines: usize,
     // The number of the first fault that was told of the block.
@@ -71,19 +97,24 @@ impl TypedLines {
             lexer,
             last: TypedLine::Nothing,
             wish: Wish::Nothing,
+            name: None,
             lines: 0,
             first: None,
         })
     }
 
-    /// Reads one more physical line, without its line feed.
-    pub fn read(&mut self, alloc: Global, line: &[u8]) {
+    /// Reads one more physical line, without its line feed. Names are those of a table.
+    pub fn read(&mut self, alloc: Global, table: &Table, line: &[u8]) {
         self.last = TypedLine::Nothing;
         self.wish = Wish::Nothing;
+        drop(self.name.take());
         match self.lexer.feed(line) {
             Ok(Some(line)) => {
                 self.last = line_of(alloc, &line);
                 self.wish = wish_of(&line);
+                if may_lack_brackets(self.last, &line) {
+                    self.name = bare_name(table, &line);
+                }
                 drop(line);
             }
             Ok(None) | Err(LexFault::OutOfMemory) => {}
@@ -94,6 +125,14 @@ impl TypedLines {
     /// What the last line asks for that is asked for otherwise.
     pub fn wish(&self) -> Wish {
         self.wish
+    }
+
+    /// The first declared name that the last line has without its brackets, where it may be refused for that.
+    pub fn name(&self) -> Option<&str> {
+        match &self.name {
+            Some(name) => Some(name.get()),
+            None => None,
+        }
     }
 
     /// Whether the last line begins a block.
@@ -195,8 +234,22 @@ fn wish_of(line: &Line) -> Wish {
     };
     match wish_by(word, rest.is_empty()) {
         Wish::Nothing if tokens.iter().any(begins_comment) => Wish::Comment,
+        Wish::Nothing => foreign_wish(word),
         wish => wish,
     }
+}
+
+// What a word asks for that begins a line of another dialect.
+fn foreign_wish(word: &Token) -> Wish {
+    for (theirs, ours) in FOREIGN {
+        if is_word(word, *theirs) {
+            return Wish::Foreign(ForeignWord {
+                theirs: *theirs,
+                ours: *ours,
+            });
+        }
+    }
+    Wish::Nothing
 }
 
 // What a word asks for, which begins a line or stands alone in it. A character alone is an order line elsewhere.
@@ -211,6 +264,34 @@ fn wish_by(word: &Token, alone: bool) -> Wish {
         return Wish::End;
     }
     Wish::Nothing
+}
+
+// Whether a line may be refused since a name has no brackets: one that the grammar refuses, or `:show`.
+fn may_lack_brackets(typed: TypedLine, line: &Line) -> bool {
+    match typed {
+        TypedLine::Fault(_) => true,
+        TypedLine::Command => match line.tokens.get().first() {
+            Some(word) => is_word(word, ":show"),
+            None => false,
+        },
+        _ => false,
+    }
+}
+
+// The first word of a line that is a declared name; none where memory is refused.
+fn bare_name(table: &Table, line: &Line) -> Option<TextBuf> {
+    for token in line.tokens.get() {
+        match token {
+            Token::Word(word) if is_name_of(table, word.get()) => return word.try_copy().ok(),
+            _ => {}
+        }
+    }
+    None
+}
+
+// Whether a word of several characters is a declared name. One character is an identifier without brackets.
+fn is_name_of(table: &Table, word: &str) -> bool {
+    word.chars().nth(1).is_some() && table.resolve(word).is_some()
 }
 
 // Whether a word begins as a comment does in many sources.

@@ -3,10 +3,10 @@
 //! The words are read by `coll_command_line`; `random_keys` draws the keys that names are looked up under, `files` opens what the
 //! words name, `importing` makes tables and delta files of sources, `explaining` tells why texts compare as they do, `standard_input`
 //! is what serves lines, as `sessions`, `words`, which sorts them, and `editing`, which serves a person; `reviews` tells what
-//! statements do to words, `differences` compares two tables, and `linting` tells all that is wrong with one; `reasons` has why the
-//! system refuses a file; `progress` is the line that says how far a run got, which the readers and writers of `metered` tell. Here the
-//! runs are started, and their faults are told: a line on standard error, what `refusals` tells below it at a terminal, and the exit
-//! status, which stands also where that line can't be written.
+//! statements do to words, `differences` compares two tables, `linting` tells all that is wrong with one, and `exports` which symbols
+//! of an exported one stand behind a character; `reasons` has why the system refuses a file; `progress` is the line that says how far
+//! a run got, which the readers and writers of `metered` tell. Here the runs are started, and their faults are told: a line on standard
+//! error, what `refusals` tells below it at a terminal, and the exit status, which stands also where that line can't be written.
 #![tactic(auto)]
 
 ghost use Rattle.std.specs.Prelude.{◌<◌, length, vec_len, IfOk, IfErr, ◌≡◌};
@@ -14,6 +14,7 @@ ghost use Rattle.std.specs.Prelude.{◌<◌, length, vec_len, IfOk, IfErr, ◌�
 mod differences;
 mod editing;
 mod explaining;
+mod exports;
 mod files;
 mod importing;
 mod laws;
@@ -31,11 +32,11 @@ mod words;
 use coll_bench::{Batch, Fault, RunFault, exit_status, read_inputs, run_batch_keyed, write_fault};
 use coll_command_line::{Request, Task, Unasked, read_words};
 use coll_edit::Editor;
-use coll_import::write_symbols_behind;
 use coll_lex::{Counted, LexFault, ReadStop, Sink, WriteStop};
 use coll_table::{HashKeys, Table};
 use differences::{read_at, tell_differences};
 use explaining::explain_texts;
+use exports::tell_symbols;
 use files::{Input, at_no_line, open_all};
 use importing::{import_as_delta, import_as_table};
 use linting::lint_files;
@@ -164,12 +165,10 @@ fn tell_exported(rt: &HostRuntime, table: &Table, file: &str) {
     match BufWriter::new(rt.alloc(), rt.stderr()) {
         Ok(buffered) => {
             let mut told = Counted::new(buffered);
-            let _ = write_symbols_behind(table, file, &mut told);
+            tell_symbols(rt.alloc(), table, file, &mut told);
             let _ = told.flush();
         }
-        Err(_) => {
-            let _ = write_symbols_behind(table, file, &mut Counted::new(rt.stderr()));
-        }
+        Err(_) => tell_symbols(rt.alloc(), table, file, &mut Counted::new(rt.stderr())),
     }
 }
 

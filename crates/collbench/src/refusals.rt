@@ -3,18 +3,25 @@
 //! The line at fault is shown, with a mark, and what to do. So the files that a fault is about are read once more: regular files alone,
 //! since a pipe or a device gives its bytes once, and never standard input. Whatever fails here is left out: the line of the fault and
 //! the exit status stay what they are without a terminal.
+//!
+//! Of what a survey doesn't look for more is told here, as an edit tells it: a target or a section that is near, `%` where it begins no
+//! comment; and of a source that changes a table, which subcommand takes it.
 
 use crate::random_keys::random_keys;
 use crate::reasons::told_reason;
 use crate::standard_input::STANDARD_INPUT;
+use coll_advice::{nearest_name, nearest_section};
 use coll_bench::{Fault, RunFault, read_inputs};
-use coll_lex::Counted;
+use coll_findings::About;
+use coll_lex::{Counted, TextBuf, past_blanks};
 use coll_lint::keep_text;
 use coll_refused_lines::{
     RefusedLine, refused_alone, refused_at, refused_in_delta, refused_in_table, write_refused,
 };
 use coll_sources::SourceFault;
+use coll_syntax::Id;
 use coll_table::{HashKeys, LoadCause, Table};
+use std::alloc::Global;
 use std::fs;
 use std::fs::File;
 use std::io::{ErrorKind, IsTerminal};
@@ -24,6 +31,27 @@ const READ_FAULT: u8 = 67;
 
 // The last number of the faults of lines, which are about no identifier.
 const LAST_OF_LINES: u8 = 12;
+
+// The numbers of the faults of a target that isn't placed, and of a section that isn't there. No survey looks for a name that is near.
+const TARGET_NOT_PLACED: u8 = 50;
+
+const NO_SUCH_SECTION: u8 = 52;
+
+// The number of the fault of a line that begins with no keyword.
+const UNKNOWN_STATEMENT: u8 = 20;
+
+// What a source is to be made into that changes a table.
+const TAILORS: &str =
+    "a source that changes a table, as by reorder-after, goes through collbench import-delta TABLE SOURCE";
+
+// What begins the lines by which a source changes a table.
+const REORDER: &[u8] = b"reorder-";
+
+// What a line says that was meant as a comment, as in an edit.
+const NO_COMMENT: &str = "% begins no comment here; behind a line comment_char % it does";
+
+// What begins a line that chooses the character of comments.
+const COMMENT_CHAR: &[u8] = b"comment_char";
 
 // What is surveyed for a fault.
 enum Surveyed {
@@ -169,7 +197,69 @@ fn refused_in_text(
         },
         Surveyed::Nothing => refused_at(rt.alloc(), fault.fault.number(), fault.line, text),
     };
-    refused.ok()
+    let mut refused = refused.ok()?;
+    if is_comment(text, fault.line, fault.fault.number()) {
+        refused.sentence = NO_COMMENT;
+    }
+    if matches!(fault.fault.number(), TARGET_NOT_PLACED | NO_SUCH_SECTION) {
+        if let Some(table) = table_before(rt, keys, fault.input, names) {
+            seek_near(rt.alloc(), &table, fault.fault.number(), &mut refused.about);
+            drop(table);
+        }
+    }
+    Some(refused)
+}
+
+// Gives what a fault with this number is about the name that is nearest to it, as an edit tells it, where one is near.
+fn seek_near(alloc: Global, table: &Table, number: u8, about: &mut About) {
+    let About::Id { id, near } = about else {
+        return;
+    };
+    let Id::Named(name) = id else {
+        return;
+    };
+    let found = if number == NO_SUCH_SECTION {
+        nearest_section(table, name.get())
+    } else {
+        nearest_name(table, name.get())
+    };
+    if let Some(found) = found {
+        *near = TextBuf::copied(alloc, found).ok();
+    }
+}
+
+// Whether the line of a text with this number is refused for what may be meant as a comment, as an edit tells it: a word that begins
+// with `%`, where no line before chooses the character that begins one.
+fn is_comment(text: &[u8], number: u32, fault: u8) -> bool {
+    if !matches!(fault, 20 | 22 | 29 | 54 | 55) {
+        return false;
+    }
+    let mut lines = text.split(is_line_feed);
+    for _ in 1..number {
+        match lines.next() {
+            Some(line) if past_blanks(line).starts_with(COMMENT_CHAR) => return false,
+            _ => {}
+        }
+    }
+    match lines.next() {
+        Some(line) => line.split(is_blank).any(begins_comment),
+        None => false,
+    }
+}
+
+// Whether a word begins as a comment does in many sources.
+fn begins_comment(word: &[u8]) -> bool {
+    word.starts_with(b"%")
+}
+
+// Whether a byte parts words.
+fn is_blank(byte: &u8) -> bool {
+    *byte == b' ' || *byte == b'\t'
+}
+
+// Whether a byte parts lines.
+fn is_line_feed(byte: &u8) -> bool {
+    *byte == b'\n'
 }
 
 // What is surveyed for a fault: the table or the delta file that it comes from, where it may be about something in a line.
@@ -194,8 +284,22 @@ fn refused_in_source(rt: &HostRuntime, number: u8, line: u32, name: &str) -> Opt
     }
     let text = kept_file(rt, name)?;
     let refused = refused_at(rt.alloc(), number, line, text.as_slice());
+    let tailors = number == UNKNOWN_STATEMENT && changes_table(text.as_slice(), line);
     drop(text);
-    refused.ok()
+    let mut refused = refused.ok()?;
+    if tailors {
+        refused.sentence = TAILORS;
+    }
+    Some(refused)
+}
+
+// Whether the line of a text with this number changes a table, as lines of a tailoring do.
+fn changes_table(text: &[u8], number: u32) -> bool {
+    let mut lines = text.split(is_line_feed);
+    match lines.nth((number as usize).saturating_sub(1)) {
+        Some(line) => past_blanks(line).starts_with(REORDER),
+        None => false,
+    }
 }
 
 // The table in the first of the files with these names, rewritten by those before a delta file.

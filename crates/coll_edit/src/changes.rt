@@ -1,0 +1,107 @@
+//! What a request changes of the history, and what a person is told of that.
+//!
+//! A reply to `:undo`, `:redo` or `:withdraw` is a number alone. At a terminal a note behind it tells which statement was taken back or
+//! put again: by its line, and a block by its first line and how many it has. What is taken back is no longer lent, so it is kept
+//! before; where memory is refused for that, no note is told.
+
+use crate::copies::copied_statement;
+use coll_devices::Sink;
+use coll_requests::{Command, Request, RequestAt};
+use coll_syntax::{Id, Statement};
+use coll_texts::{Piece, write_pieces, write_statement};
+use std::alloc::Global;
+
+/// What a request asks of the history.
+#[derive(Clone, Copy)]
+pub(crate) enum Asked {
+    /// Nothing.
+    Nothing,
+    /// That a statement is put behind those that remain.
+    Statement,
+    /// That the last one is taken back.
+    Undo,
+    /// That the one which was taken back last is put again.
+    Redo,
+    /// That the one with this number is taken from among the others.
+    Withdrawal(u32),
+}
+
+/// What a request asks of the history, if there is one.
+pub(crate) fn asked_of(request: &Option<RequestAt>) -> Asked {
+    match request {
+        Some(request) => match &request.request {
+            Request::Statement(_) => Asked::Statement,
+            Request::Command(Command::Undo) => Asked::Undo,
+            Request::Command(Command::Redo) => Asked::Redo,
+            Request::Command(Command::Withdraw(number)) => Asked::Withdrawal(*number),
+            _ => Asked::Nothing,
+        },
+        None => Asked::Nothing,
+    }
+}
+
+/// What is told of a statement.
+#[derive(Drop)]
+pub(crate) enum Told {
+    /// A block, by its target and the number of its lines.
+    Block(Id, usize),
+    /// Another one, whole.
+    Line(Statement),
+}
+
+/// What is told of a statement; nothing where memory is refused.
+pub(crate) fn told_of(alloc: Global, statement: &Statement) -> Option<Told> {
+    match statement {
+        Statement::Block { target, lines } => match target.clone() {
+            Ok(target) => Some(Told::Block(target, lines.get().len())),
+            Err(_) => None,
+        },
+        statement => match copied_statement(alloc, statement) {
+            Ok(copy) => Some(Told::Line(copy)),
+            Err(_) => None,
+        },
+    }
+}
+
+/// Tells that a statement was taken back.
+pub(crate) fn tell_back<M: Sink>(messages: &mut M, told: &Told) {
+    tell(messages, b"note: taken back: ", told);
+}
+
+/// Tells that a statement was put again.
+pub(crate) fn tell_again<M: Sink>(messages: &mut M, told: &Told) {
+    tell(messages, b"note: put again: ", told);
+}
+
+// Tells a statement behind these words.
+fn tell<'a, M: Sink>(messages: &mut M, words: &'a [u8], told: &'a Told) {
+    match told {
+        Told::Block(target, count) => tell_block(messages, words, target, *count),
+        Told::Line(statement) => {
+            if write_pieces(messages, &[Piece::Bytes(words)]).is_ok() {
+                let _ = write_statement(messages, statement);
+            }
+        }
+    }
+    let _ = messages.flush();
+}
+
+// Tells a block behind these words.
+fn tell_block<'a, M: Sink>(messages: &mut M, words: &'a [u8], target: &'a Id, count: usize) {
+    let lines: &[u8] = if count == 1 {
+        b" line)\n"
+    } else {
+        b" lines)\n"
+    };
+    let _ = write_pieces(
+        messages,
+        &[
+            Piece::Bytes(words),
+            Piece::Bytes(b"reorder-after "),
+            Piece::Id(target),
+            Piece::Bytes(b" .. ("),
+            Piece::Number(count as u64),
+            Piece::Bytes(lines),
+        ],
+    );
+}

@@ -1,0 +1,71 @@
+//! How many statements stand in a file, and how many that remain do not.
+//!
+//! Those that stand in a file are counted from the first statement that remains, on into those that were taken back and may be put
+//! again: neither `:undo` nor `:redo` changes which these are. A statement that is accepted stands behind those before it, and drops
+//! those that might be put again; one that is withdrawn is taken from among them, and drops these too (`specs/Stored.antt`).
+
+ghost use Rattle.std.specs.Prelude.{◌≡◌, ◌-◌, max};
+ghost use Rattle.coll_edit.specs.Stored.{behind_request as stated_behind, behind_withdrawal as stated_withdrawal, stored_in};
+
+use crate::changes::Asked;
+
+/// How many statements stand in a file, from the first on.
+#[derive(Clone, Copy)]
+pub(crate) struct Stored {
+    count: u32,
+}
+
+impl Stored {
+    /// What stands there where that was noted, and else all of so many that remain, since they are those of delta files.
+    pub fn noted(stored: Option<Stored>, remaining: u32) -> Stored
+        ensures { result ≡ stored_in stored remaining }
+    {
+        match stored {
+            Some(stored) => stored,
+            None => Stored { count: remaining },
+        }
+    }
+
+    /// What stands there behind a request, before which so many remained, and behind which so many remain.
+    pub fn behind_request(self, asked: Asked, before: u32, now: u32) -> Stored
+        ensures { result ≡ stated_behind self asked before now }
+    {
+        match asked {
+            Asked::Statement if before < now => Stored {
+                count: self.count.min(before),
+            },
+            Asked::Withdrawal(number) if now < before => self.behind_withdrawal(number, now),
+            _ => self,
+        }
+    }
+
+    // What stands there once the statement with a number was withdrawn, behind which so many remain.
+    fn behind_withdrawal(self, number: u32, remaining: u32) -> Stored
+        ensures { result ≡ stated_withdrawal self number remaining }
+    {
+        let kept = if number <= self.count {
+            self.count.saturating_sub(1)
+        } else {
+            self.count
+        };
+        Stored {
+            count: kept.min(remaining),
+        }
+    }
+
+    /// What stands there once those that remain were written.
+    pub fn behind_write(self, remaining: u32) -> Stored
+        ensures { result ≡ record { count = max self.count remaining } }
+    {
+        Stored {
+            count: self.count.max(remaining),
+        }
+    }
+
+    /// How many of those that remain stand in no file.
+    pub fn missing(self, remaining: u32) -> u32
+        ensures { result ≡ remaining - self.count }
+    {
+        remaining.saturating_sub(self.count)
+    }
+}
