@@ -65,11 +65,15 @@ impl FoundFault {
         ensures line { result.line ≡ line }
         ensures about { result.about ≡ about }
     {
+        let sentence = match advice_of(fault.fault.number()) {
+            Some(told) => told.sentence,
+            None => "",
+        };
         FoundFault {
             fault,
             line,
             about,
-            sentence: sentence_of(fault.fault.number()),
+            sentence,
         }
     }
 
@@ -95,13 +99,5 @@ impl FoundFault {
             ),
             About::Nothing | About::Word(_) => false,
         }
-    }
-}
-
-// What to do by the number of a fault.
-fn sentence_of(number: u8) -> &'static str {
-    match advice_of(number) {
-        Some(told) => told.sentence,
-        None => "",
     }
 }

@@ -21,7 +21,7 @@ mod warnings;
 pub use collecting::{Collected, Surveyed, Told};
 pub use findings::{About, FoundFault};
 pub use foreign_words::ForeignWord;
-pub use line_surveys::{Opening, TakesLines, survey_keywords, survey_lines};
+pub use line_surveys::{Opening, TakesLines, first_line, survey_keywords, survey_lines};
 pub use subjects::{about_found, about_id, refused_subject, table_subject};
 pub use unplaced::{Declarations, DeclaredName};
 pub use warnings::{Warned, WarnedKind, Warning, Warnings};

@@ -107,8 +107,8 @@ pub fn survey_keywords<T: TakesLines>(
     Ok(())
 }
 
-// The first line of a text, without the line feed that ends it, and what stands behind that, unless the text is empty.
-fn first_line(text: &[u8]) -> Option<(&[u8], &[u8])>
+/// The first line of a text, without the line feed that ends it, and what stands behind that, unless the text is empty.
+pub fn first_line(text: &[u8]) -> Option<(&[u8], &[u8])>
     ensures none { IfNone result (text.now ≡ []) }
     ensures lines { IfSome result (λ cut. lines_of text.now ≡ cut.0.now ∷ lines_of cut.1.now) }
     ensures less { IfSome result (λ cut. length cut.1.now < length text.now) }
@@ -177,7 +177,7 @@ impl Lines {
     {
         let mut left = text;
         'lines: while let Some((line, behind)) = first_line(left) {
-            if self.hand_on_unless_passed(line, taker)? {
+            if self.hand_on(line, taker)? {
                 return Ok(None);
             }
             left = behind;
@@ -186,11 +186,7 @@ impl Lines {
     }
 
     // Hands on a physical line, unless it is passed over, and answers whether it ends the category.
-    fn hand_on_unless_passed<T: TakesLines>(
-        &mut self,
-        line: &[u8],
-        taker: &mut T,
-    ) -> Result<bool, AllocError>
+    fn hand_on<T: TakesLines>(&mut self, line: &[u8], taker: &mut T) -> Result<bool, AllocError>
         ensures { self.old.passes ≡ false → self.old.passed ≡ 0
             → IfOk result (λ ended. HandsOn T.takes T.ends self.old line.now self.new taker.old taker.new ended) }
     {
@@ -198,7 +194,27 @@ impl Lines {
             self.passed = self.passed.saturating_add(1);
             return Ok(false);
         }
-        self.hand_on(line, taker)
+        let number = self.next_number();
+        if !self.begun {
+            match self.lexer.outside(line) {
+                Ok(begins) => self.begun = begins,
+                Err(fault) => taker.refuse(number, Opening::Other, fault)?,
+            }
+            return Ok(false);
+        }
+        let opening = self.opening_at(line);
+        match self.lexer.feed(line) {
+            Ok(Some(whole)) => self.hand_on_whole(whole, opening, taker),
+            Ok(None) => {
+                self.opening = opening;
+                Ok(false)
+            }
+            Err(LexFault::OutOfMemory) => Err(AllocError),
+            Err(fault) => {
+                taker.refuse(number, opening, fault)?;
+                Ok(false)
+            }
+        }
     }
 
     // Whether a physical line is passed over.
@@ -216,46 +232,6 @@ impl Lines {
         ensures { self.now.passed ≡ 0 → result ≡ number_of self.now.lexer }
     {
         self.lexer.next_number().saturating_add(self.passed)
-    }
-
-    // Hands on a physical line, and answers whether it ends the category.
-    fn hand_on<T: TakesLines>(&mut self, line: &[u8], taker: &mut T) -> Result<bool, AllocError>
-        ensures { self.old.passed ≡ 0 → IfOk result (λ ended. HandsOn T.takes T.ends self.old line.now self.new taker.old taker.new ended) }
-    {
-        if self.begun {
-            return self.hand_on_inside(line, taker);
-        }
-        let number = self.next_number();
-        match self.lexer.outside(line) {
-            Ok(begins) => self.begun = begins,
-            Err(fault) => taker.refuse(number, Opening::Other, fault)?,
-        }
-        Ok(false)
-    }
-
-    // Hands on a physical line of the category.
-    fn hand_on_inside<T: TakesLines>(
-        &mut self,
-        line: &[u8],
-        taker: &mut T,
-    ) -> Result<bool, AllocError>
-        requires { self.old.begun ≡ true }
-        ensures { self.old.passed ≡ 0 → IfOk result (λ ended. HandsOn T.takes T.ends self.old line.now self.new taker.old taker.new ended) }
-    {
-        let number = self.next_number();
-        let opening = self.opening_at(line);
-        match self.lexer.feed(line) {
-            Ok(Some(whole)) => self.hand_on_whole(whole, opening, taker),
-            Ok(None) => {
-                self.opening = opening;
-                Ok(false)
-            }
-            Err(LexFault::OutOfMemory) => Err(AllocError),
-            Err(fault) => {
-                taker.refuse(number, opening, fault)?;
-                Ok(false)
-            }
-        }
     }
 
     // Hands on a logical line, with its number among all, and answers whether it ends the category.

@@ -13,14 +13,6 @@ pub fn about_id(id: Id) -> About {
     About::Id { id, near: None }
 }
 
-/// An identifier that a fault is about, if it is about one.
-pub(crate) fn about_given(id: Option<Id>) -> About {
-    match id {
-        Some(id) => about_id(id),
-        None => About::Nothing,
-    }
-}
-
 /// What a fault of a statement is about.
 pub fn about_found(found: &Found) -> Result<About, AllocError> {
     match &found.id {
@@ -48,41 +40,30 @@ pub fn refused_subject(
         return unknown_subject(alloc, line);
     }
     let mut tokens = line.tokens.get().iter();
-    match tokens.next() {
-        Some(first) => {
-            let about = token_subject(alloc, first)?;
-            match about {
-                About::Nothing => next_subject(alloc, tokens.next()),
-                about => Ok(about),
-            }
-        }
-        None => Ok(About::Nothing),
+    match token_subject(alloc, tokens.next())? {
+        About::Nothing => token_subject(alloc, tokens.next()),
+        about => Ok(about),
     }
 }
 
 // What a line is about of which the first token begins no line.
 fn unknown_subject(alloc: Global, line: &Line) -> Result<About, AllocError> {
-    let Some(first) = line.tokens.get().first() else {
-        return Ok(About::Nothing);
-    };
-    match foreign_word(first) {
+    let first = line.tokens.get().first();
+    match first.and_then(foreign_word) {
         Some(word) => Ok(About::Word(word)),
         None => token_subject(alloc, first),
     }
 }
 
-// The identifier of a token behind another, if there is one.
-fn next_subject(alloc: Global, token: Option<&Token>) -> Result<About, AllocError> {
-    match token {
-        Some(token) => token_subject(alloc, token),
+// The identifier that a token spells, if there is a token, and it spells one.
+fn token_subject(alloc: Global, token: Option<&Token>) -> Result<About, AllocError> {
+    let Some(token) = token else {
+        return Ok(About::Nothing);
+    };
+    match id_of(alloc, token)? {
+        Some(id) => Ok(about_id(id)),
         None => Ok(About::Nothing),
     }
-}
-
-// The identifier that a token spells, if it spells one.
-fn token_subject(alloc: Global, token: &Token) -> Result<About, AllocError> {
-    let id = id_of(alloc, token)?;
-    Ok(about_given(id))
 }
 
 /// What a line of a table is about that is refused for a cause.

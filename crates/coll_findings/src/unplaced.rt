@@ -27,31 +27,24 @@ struct DeclaredAt {
     unplaced: Warning,
 }
 
-impl DeclaredAt {
-    // The declaration of a name at a line.
-    fn new(line: u32, name: DeclaredName) -> DeclaredAt {
-        match name {
-            DeclaredName::Symbol(name) => DeclaredAt {
-                line,
-                id: Id::Named(name),
-                unplaced: Warning::SymbolNeverPlaced,
-            },
-            DeclaredName::Element(name) => DeclaredAt {
-                line,
-                id: Id::Named(name),
-                unplaced: Warning::ElementNeverPlaced,
-            },
-        }
-    }
-}
-
 /// What was declared, and what stood on order lines.
-#[derive(Drop)]
 pub struct Declarations {
     // What was declared, in order.
     declared: Vec<DeclaredAt>,
     // The identifiers that order lines had, by own names, also of lines at fault.
     mentioned: IdSet,
+}
+
+// Written out, so that each place that drops it is one call.
+impl Drop for Declarations {
+    fn drop(self) {
+        let Declarations {
+            declared,
+            mentioned,
+        } = self;
+        drop(declared);
+        drop(mentioned);
+    }
 }
 
 impl Declarations {
@@ -65,7 +58,15 @@ impl Declarations {
 
     /// Notes a name that a line declares, behind those of the lines before.
     pub fn declare(&mut self, line: u32, name: DeclaredName) -> Result<(), AllocError> {
-        self.declared.push(DeclaredAt::new(line, name))?;
+        let (name, unplaced) = match name {
+            DeclaredName::Symbol(name) => (name, Warning::SymbolNeverPlaced),
+            DeclaredName::Element(name) => (name, Warning::ElementNeverPlaced),
+        };
+        self.declared.push(DeclaredAt {
+            line,
+            id: Id::Named(name),
+            unplaced,
+        })?;
         Ok(())
     }
 
@@ -79,15 +80,10 @@ impl Declarations {
         ensures { told.new.told.faults ≡ told.old.told.faults }
     {
         for declared in self.declared.as_slice() {
-            if self.is_unplaced(table, &declared.id) {
+            if table.entry(&declared.id).is_none() && !self.mentioned.contains(&declared.id) {
                 told.warn(declared.unplaced, declared.line, Some(&declared.id))?;
             }
         }
         Ok(())
-    }
-
-    // Whether an identifier has no entry, and stood on no order line.
-    fn is_unplaced(&self, table: &Table, id: &Id) -> bool {
-        table.entry(id).is_none() && !self.mentioned.contains(id)
     }
 }

@@ -4,9 +4,9 @@
 //! one with five. A new kind is a variant of `Warning`, a field of `Warnings` and a case of `Warns` (`specs/GatheredWarnings.antt`), with
 //! its words in `warning_lines` and `specs/WarningLines.antt` of `coll_lint`.
 
-ghost use Rattle.std.specs.Prelude.{◌≡◌, not, nat_lt, true, [], length, IfOk, OnOk};
+ghost use Rattle.std.specs.Prelude.{◌≡◌, [], IfOk, OnOk};
 ghost use Rattle.std.specs.Option.{option_map};
-ghost use Rattle.coll_findings.specs.GatheredWarnings.{AddsOne, Warns, counted, most_firsts};
+ghost use Rattle.coll_findings.specs.GatheredWarnings.{AddsOne, Warns};
 
 use coll_syntax::Id;
 use std::alloc::{AllocError, Global};
@@ -63,36 +63,13 @@ impl WarnedKind {
     fn add(&mut self, line: u32, id: Option<&Id>) -> Result<(), AllocError>
         ensures { OnOk result (AddsOne self.old self.new (record { line = line; id = option_map (λ id. id.now) id.entry })) }
     {
-        if self.is_full() {
-            self.count_one();
+        self.count = self.count.saturating_add(1);
+        if self.firsts.len() >= MOST_FIRSTS {
             return Ok(());
         }
         let id = copied(id)?;
-        self.keep(Warned { line, id })
-    }
-
-    // Keeps a warning behind those that are kept.
-    fn keep(&mut self, one: Warned) -> Result<(), AllocError>
-        requires { nat_lt (length self.old.firsts.items) most_firsts ≡ true }
-        ensures { OnOk result (AddsOne self.old self.new one) }
-    {
-        self.firsts.push(one)?;
-        self.count_one();
+        self.firsts.push(Warned { line, id })?;
         Ok(())
-    }
-
-    // Whether no further warning is kept.
-    fn is_full(&self) -> bool
-        ensures { result ≡ not (nat_lt (length self.now.firsts.items) most_firsts) }
-    {
-        self.firsts.len() >= MOST_FIRSTS
-    }
-
-    // Counts one more.
-    fn count_one(&mut self)
-        ensures { self.new ≡ record self.old { count = counted self.old.count } }
-    {
-        self.count = self.count.saturating_add(1);
     }
 }
 

@@ -6,7 +6,6 @@
 ghost use Rattle.std.specs.Prelude.{◌≡◌, ◌<◌, ◌∷◌, true, false, length, get_or, All, IfNone, IfSome, OnOk};
 ghost use Rattle.coll_lint.specs.Lints.{AreOthers, BeginsWith, IsPutFirst, is_answered as answered_so};
 ghost use Rattle.coll_findings.specs.ToldFaults.{AreOnce};
-ghost use Rattle.coll_findings.specs.declared.findings.About.TheVariants as about;
 ghost use Rattle.coll_findings.specs.declared.findings.FoundFault.{FoundFault};
 
 use coll_faults::RunFault;
@@ -31,8 +30,16 @@ pub fn found_as(first: RunFault, faults: &mut Vec<FoundFault>) -> FoundFault
     ensures once { AreOnce faults.old.items → AreOnce (result ∷ faults.new.items) }
 {
     match place_of(&first, faults.as_slice()) {
-        Some(place) => told_as(first, faults.remove(place)),
-        None => told_alone(first),
+        Some(place) => {
+            let FoundFault {
+                fault: _,
+                line,
+                about,
+                sentence: _,
+            } = faults.remove(place);
+            FoundFault::new(first, line, about)
+        }
+        None => FoundFault::new(first, first.line, About::Nothing),
     }
 }
 
@@ -52,28 +59,4 @@ fn is_answered(first: &RunFault, found: &FoundFault) -> bool
     (found.fault.line == first.line || found.line == first.line)
         && found.fault.input == first.input
         && found.fault.fault.number() == first.fault.number()
-}
-
-// What is told of a fault that a batch answers, and that a survey found as well.
-fn told_as(first: RunFault, found: FoundFault) -> FoundFault
-    ensures fault { result.fault ≡ first }
-    ensures line { result.line ≡ found.line }
-    ensures about { result.about ≡ found.about }
-{
-    let FoundFault {
-        fault: _,
-        line,
-        about,
-        sentence: _,
-    } = found;
-    FoundFault::new(first, line, about)
-}
-
-// What is told of a fault that a batch answers, and that no survey found.
-fn told_alone(first: RunFault) -> FoundFault
-    ensures fault { result.fault ≡ first }
-    ensures line { result.line ≡ first.line }
-    ensures about { result.about ≡ about.Nothing }
-{
-    FoundFault::new(first, first.line, About::Nothing)
 }

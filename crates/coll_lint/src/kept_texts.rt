@@ -31,31 +31,13 @@ pub fn keep_text<R: Source>(
     ensures fault { IfErr result (λ ended. StopsReading input ended) }
     ensures reads { CountsReads (R.failed source.old) (R.failed source.new) result }
 {
-    match zero_bytes(alloc, BUFFER_BYTES) {
-        Ok(mut buffer) => {
-            let kept = keep_by(alloc, input, source, buffer.as_mut_slice());
-            drop(buffer);
-            kept
-        }
-        Err(_) => Err(no_memory(input)),
-    }
-}
-
-// Reads the text of an input whole, by means of a buffer.
-fn keep_by<R: Source>(
-    alloc: Global,
-    input: usize,
-    source: &mut R,
-    buffer: &mut [u8],
-) -> Result<Vec<u8>, RunFault>
-    requires { 0 < length buffer.old }
-    ensures text { IfOk result (λ kept. IsTextOf (R.left source.old) kept.items) }
-    ensures most { IfOk result (λ kept. length kept.items ≤ most_text_bytes) }
-    ensures fault { IfErr result (λ ended. StopsReading input ended) }
-    ensures reads { CountsReads (R.failed source.old) (R.failed source.new) result }
-{
+    let Ok(mut buffer) = zero_bytes(alloc, BUFFER_BYTES) else {
+        return Err(no_memory(input));
+    };
     let mut kept = Vec::new(alloc);
-    match keep_all(input, source, buffer, &mut kept) {
+    let read = keep_all(input, source, buffer.as_mut_slice(), &mut kept);
+    drop(buffer);
+    match read {
         Ok(()) => Ok(kept),
         Err(ended) => {
             drop(kept);

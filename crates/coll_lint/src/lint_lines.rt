@@ -4,14 +4,13 @@ ghost use Rattle.std.specs.Prelude.{◌≡◌, Some, chars, map, string_bytes};
 ghost use Rattle.std.specs.List.{flat_map};
 ghost use Rattle.coll_devices.specs.Devices.{Writes};
 ghost use Rattle.coll_bench.specs.Reports.{named};
-ghost use Rattle.coll_lint.specs.LintLines.{about_told, fault_head, faults_text, found_line, lint_text, more_line, sentence_told};
+ghost use Rattle.coll_lint.specs.LintLines.{about_told, fault_head, faults_text, found_line, lint_text, more_line};
 ghost use Rattle.coll_lint.specs.LintLines.{subject_told, word_told};
 
 use crate::lints::Lint;
 use crate::warning_lines::write_warnings;
 use coll_devices::{Sink, WriteStop};
 use coll_findings::{About, ForeignWord, FoundFault};
-use coll_lex::TextBuf;
 use coll_syntax::Id;
 use coll_texts::{Piece, write_pieces};
 
@@ -87,43 +86,23 @@ fn write_head<W: Sink>(found: &FoundFault, names: &[String], out: &mut W) -> Res
 }
 
 // Writes what a fault is about, what to do, and a line feed.
-fn write_about<W: Sink>(sentence: &str, about: &About, out: &mut W) -> Result<(), WriteStop>
+fn write_about<'a, W: Sink>(
+    sentence: &'a str,
+    about: &'a About,
+    out: &mut W,
+) -> Result<(), WriteStop>
     ensures { Writes (W.taken out.old) (W.taken out.new) (W.failed out.old) (W.failed out.new) (about_told sentence.now about.now) result }
 {
     match about {
-        About::Nothing => write_sentence(sentence, out),
-        About::Id { id, near } => write_subject(sentence, id, near, out),
-        About::Word(word) => write_word(word, out),
-    }
-}
-
-// Writes what to do, and a line feed.
-fn write_sentence<'a, W: Sink>(sentence: &'a str, out: &mut W) -> Result<(), WriteStop>
-    ensures { Writes (W.taken out.old) (W.taken out.new) (W.failed out.old) (W.failed out.new) (sentence_told sentence.now) result }
-{
-    write_pieces(
-        out,
-        &[
-            Piece::Bytes(b": "),
-            Piece::Bytes(sentence.as_bytes()),
-            Piece::Bytes(b"\n"),
-        ],
-    )
-}
-
-// Writes an identifier, what to do, a name that is near, if one is, and a line feed.
-fn write_subject<'a, W: Sink>(
-    sentence: &'a str,
-    id: &'a Id,
-    near: &'a Option<TextBuf>,
-    out: &mut W,
-) -> Result<(), WriteStop>
-    ensures { Writes (W.taken out.old) (W.taken out.new) (W.failed out.old) (W.failed out.new)
-        (subject_told sentence.now id.now near.now) result }
-{
-    match near {
-        Some(near) => write_with_near(sentence, id, near.get(), out),
-        None => write_pieces(
+        About::Nothing => write_pieces(
+            out,
+            &[
+                Piece::Bytes(b": "),
+                Piece::Bytes(sentence.as_bytes()),
+                Piece::Bytes(b"\n"),
+            ],
+        ),
+        About::Id { id, near: None } => write_pieces(
             out,
             &[
                 Piece::Bytes(b" "),
@@ -133,6 +112,11 @@ fn write_subject<'a, W: Sink>(
                 Piece::Bytes(b"\n"),
             ],
         ),
+        About::Id {
+            id,
+            near: Some(near),
+        } => write_with_near(sentence, id, near.get(), out),
+        About::Word(word) => write_word(word, out),
     }
 }
 

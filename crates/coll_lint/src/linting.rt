@@ -23,7 +23,7 @@ use crate::progress::{Nobody, Progress, WatchedText};
 use crate::surveyed::told_of;
 use coll_bench::{Fault, RunFault, read_delta, read_inputs};
 use coll_devices::{Counted, Sink, WriteStop};
-use coll_findings::Told;
+use coll_findings::{Surveyed, Told};
 use coll_lex::ListBuf;
 use coll_lookups::HashKeys;
 use coll_surveys::{survey_accepted, survey_delta, survey_table};
@@ -131,17 +131,11 @@ fn lint_read(
 {
     match delta {
         Some(delta) => lint_over(alloc, keys, read, table, delta),
-        None => lint_alone(alloc, keys, read, table),
+        None => {
+            let surveyed = survey_accepted(alloc, keys, table, read);
+            lint_if_accepted(alloc, surveyed, table, None)
+        }
     }
-}
-
-// What is told of the text of a table that a batch accepts, which gives this table.
-fn lint_alone(alloc: Global, keys: HashKeys, read: Table, table: &[u8]) -> Result<Lint, RunFault>
-    requires { after_inputs table.now [] ≡ Ok (collation read) }
-    ensures { LintsTexts table.now [] result }
-{
-    let told = survey_read(alloc, keys, read, table);
-    lint_if_accepted(alloc, told)
 }
 
 // What is told of a delta file over a table, which this text gives.
@@ -156,24 +150,12 @@ fn lint_over(
     ensures { LintsTexts table.now (delta.now ∷ []) result }
 {
     match judged_over(alloc, &read, delta) {
-        Ok(()) => lint_accepted_delta(alloc, keys, read, table, delta),
+        Ok(()) => {
+            let surveyed = survey_delta(alloc, keys, read, delta);
+            lint_if_accepted(alloc, surveyed, table, Some(delta))
+        }
         Err(first) => lint_faulty_delta(alloc, keys, first, read, table, delta),
     }
-}
-
-// What is told of a delta file that a batch accepts over this table, unless memory is refused.
-fn lint_accepted_delta(
-    alloc: Global,
-    keys: HashKeys,
-    read: Table,
-    table: &[u8],
-    delta: &[u8],
-) -> Result<Lint, RunFault>
-    ensures none { IfOk result (λ lint. lint.faults ≡ []) }
-    ensures memory { IfErr result (λ ended. of_no_text ended ≡ true) }
-{
-    let told = survey_over(alloc, keys, read, table, delta);
-    lint_if_accepted(alloc, told)
 }
 
 // What is told of a delta file in which a batch answers this fault first, over this table, if it is a fault of the file.
@@ -194,8 +176,8 @@ fn lint_faulty_delta(
         drop(read);
         return Err(first);
     }
-    let told = survey_over(alloc, keys, read, table, delta);
-    lint_if_refused(first, told)
+    let surveyed = survey_delta(alloc, keys, read, delta);
+    lint_if_refused(alloc, first, surveyed, table, Some(delta))
 }
 
 // What is told of the text of a table in which a batch answers this fault first, if it is a fault of the text.
@@ -213,30 +195,45 @@ fn lint_faulty(
     if is_of_no_text(&first) {
         return Err(first);
     }
-    let told = survey_alone(alloc, keys, table);
-    lint_if_refused(first, told)
+    let surveyed = survey_table(alloc, keys, table);
+    lint_if_refused(alloc, first, surveyed, table, None)
 }
 
 // What is told of texts that a batch accepts, by their survey, unless memory was refused: warnings alone.
-fn lint_if_accepted(alloc: Global, told: Result<Told, AllocError>) -> Result<Lint, RunFault>
+fn lint_if_accepted(
+    alloc: Global,
+    surveyed: Result<Surveyed, AllocError>,
+    table: &[u8],
+    delta: Option<&[u8]>,
+) -> Result<Lint, RunFault>
+    requires { IfOk surveyed (λ surveyed. AreOnce surveyed.told.faults.items) }
     ensures none { IfOk result (λ lint. lint.faults ≡ []) }
     ensures memory { IfErr result (λ ended. of_no_text ended ≡ true) }
 {
-    match told {
-        Ok(told) => Ok(accepted(alloc, told)),
+    match surveyed {
+        Ok(surveyed) => match told_of(alloc, surveyed, table, delta) {
+            Ok(told) => Ok(accepted(alloc, told)),
+            Err(_) => Err(no_memory(0)),
+        },
         Err(_) => Err(no_memory(0)),
     }
 }
 
 // What is told of texts in which a batch answers this fault first, by their survey, unless memory was refused.
-fn lint_if_refused(first: RunFault, told: Result<Told, AllocError>) -> Result<Lint, RunFault>
-    requires { IfOk told (λ told. AreOnce told.faults.items) }
+fn lint_if_refused(
+    alloc: Global,
+    first: RunFault,
+    surveyed: Result<Surveyed, AllocError>,
+    table: &[u8],
+    delta: Option<&[u8]>,
+) -> Result<Lint, RunFault>
+    requires { IfOk surveyed (λ surveyed. AreOnce surveyed.told.faults.items) }
     ensures begins { IfOk result (λ lint. BeginsWith first lint.faults) }
     ensures once { IfOk result (λ lint. AreOnce lint.faults) }
     ensures memory { IfErr result (λ ended. of_no_text ended ≡ true) }
 {
-    match told {
-        Ok(told) => match refused(first, told) {
+    match surveyed {
+        Ok(surveyed) => match refused(alloc, first, surveyed, table, delta) {
             Ok(lint) => Ok(lint),
             Err(_) => Err(no_memory(0)),
         },
@@ -311,8 +308,14 @@ fn accepted(alloc: Global, told: Told) -> Lint
 }
 
 // What is told of texts by their survey, and by the fault that a batch answers first.
-fn refused(first: RunFault, told: Told) -> Result<Lint, AllocError>
-    requires { AreOnce told.faults.items }
+fn refused(
+    alloc: Global,
+    first: RunFault,
+    surveyed: Surveyed,
+    table: &[u8],
+    delta: Option<&[u8]>,
+) -> Result<Lint, AllocError>
+    requires { AreOnce surveyed.told.faults.items }
     ensures begins { IfOk result (λ lint. BeginsWith first lint.faults) }
     ensures once { IfOk result (λ lint. AreOnce lint.faults) }
 {
@@ -320,7 +323,7 @@ fn refused(first: RunFault, told: Told) -> Result<Lint, AllocError>
         mut faults,
         more_faults,
         warnings,
-    } = told;
+    } = told_of(alloc, surveyed, table, delta)?;
     match put_first(first, &mut faults) {
         Ok(()) => Ok(Lint {
             faults: ListBuf::new(faults),
@@ -333,46 +336,6 @@ fn refused(first: RunFault, told: Told) -> Result<Lint, AllocError>
             Err(error)
         }
     }
-}
-
-// What a survey tells of the text of a table that is at fault.
-fn survey_alone(alloc: Global, keys: HashKeys, table: &[u8]) -> Result<Told, AllocError>
-    ensures { IfOk result (λ told. AreOnce told.faults.items) }
-{
-    told_of(alloc, survey_table(alloc, keys, table)?, table, None)
-}
-
-// What a survey tells of the text of a table without fault, which gives this table.
-fn survey_read(
-    alloc: Global,
-    keys: HashKeys,
-    read: Table,
-    table: &[u8],
-) -> Result<Told, AllocError> {
-    told_of(
-        alloc,
-        survey_accepted(alloc, keys, table, read)?,
-        table,
-        None,
-    )
-}
-
-// What a survey tells of a delta file over this table, which the text of a table gives.
-fn survey_over(
-    alloc: Global,
-    keys: HashKeys,
-    read: Table,
-    table: &[u8],
-    delta: &[u8],
-) -> Result<Told, AllocError>
-    ensures { IfOk result (λ told. AreOnce told.faults.items) }
-{
-    told_of(
-        alloc,
-        survey_delta(alloc, keys, read, delta)?,
-        table,
-        Some(delta),
-    )
 }
 
 // A write failed.

@@ -68,9 +68,12 @@ fn fill_near(
     let Id::Named(name) = id else {
         return Ok(());
     };
-    if let Some(found) = nearest_name(table, name.get()) {
-        let found = TextBuf::copied(alloc, found)?;
-        drop(near.replace(found));
+    match nearest_name(table, name.get()) {
+        Some(found) => {
+            let found = TextBuf::copied(alloc, found)?;
+            drop(near.replace(found));
+            Ok(())
+        }
+        None => Ok(()),
     }
-    Ok(())
 }

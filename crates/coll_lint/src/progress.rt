@@ -59,11 +59,13 @@ impl<P: Progress> Source for WatchedText<'_, P> {
 
     fn read(&mut self, buf: &mut [u8]) -> io::Result<usize> {
         self.progress.judged(self.read, self.all);
-        let read = self.text.read(buf);
-        if let Ok(count) = &read {
-            self.read = self.read.saturating_add(*count);
+        match self.text.read(buf) {
+            Ok(count) => {
+                self.read = self.read.saturating_add(count);
+                Ok(count)
+            }
+            Err(error) => Err(error),
         }
-        read
     }
 
     fn errors(&self) -> u64 {

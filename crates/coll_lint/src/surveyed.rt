@@ -51,11 +51,6 @@ fn put_in_order(alloc: Global, surveyed: &mut Surveyed) -> Result<(), AllocError
 // Notes the byte order mark of the text that was surveyed, which is that of the delta file where one is given, and then that of the table
 // beside it.
 fn note_marks(warnings: &mut Warnings, table: &[u8], delta: Option<&[u8]>) {
-    match delta {
-        Some(delta) => {
-            warnings.mark = delta.starts_with(MARK);
-            warnings.table_mark = table.starts_with(MARK);
-        }
-        None => warnings.mark = table.starts_with(MARK),
-    }
+    warnings.mark = delta.unwrap_or(table).starts_with(MARK);
+    warnings.table_mark = delta.is_some() && table.starts_with(MARK);
 }

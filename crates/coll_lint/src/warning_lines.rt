@@ -107,7 +107,7 @@ fn write_kind<W: Sink>(
     match firsts {
         [] => Ok(()),
         [only] => write_alone(name, warning, only, out),
-        _ => write_several(name, warning, count, firsts, out),
+        _ => write_several(name, warning, firsts, count, out),
     }
 }
 
@@ -150,8 +150,8 @@ fn write_alone<'a, W: Sink>(
 fn write_several<W: Sink>(
     name: &str,
     warning: Warning,
-    count: u32,
     firsts: &[Warned],
+    count: u32,
     out: &mut W,
 ) -> Result<(), WriteStop>
     ensures { Writes (W.taken out.old) (W.taken out.new) (W.failed out.old) (W.failed out.new)

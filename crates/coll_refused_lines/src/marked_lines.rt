@@ -5,7 +5,8 @@
 
 ghost use Rattle.std.specs.Prelude.{◌≡◌, ◌≤◌, ◌++◌, length, take, replicate, chars, encode_utf8_all, string_bytes, IfOk, OnOk};
 ghost use Rattle.coll_lex.specs.Characters.{space};
-ghost use Rattle.coll_refused_lines.specs.MarkedLines.{columns_at, columns_behind, first_shown, is_obeyed as obeyed, margin_below, mark_column, mark_line, marked_columns};
+ghost use Rattle.coll_refused_lines.specs.MarkedLines.{columns_at, columns_behind, first_shown, margin_below, mark_column, mark_line};
+ghost use Rattle.coll_refused_lines.specs.MarkedLines.{marked_columns};
 ghost use Rattle.coll_refused_lines.specs.MarkedLines.{shown_line, visible as visible_one, with_bytes};
 
 use itoa::Buffer;
@@ -178,28 +179,18 @@ fn put_spaces(count: usize, columns: &mut Vec<char>) -> Result<(), AllocError>
     Ok(())
 }
 
-// A character as it is shown.
+// A character as it is shown: one that a terminal obeys, or shows nothing for, is replaced.
 fn visible(c: char) -> char
     ensures { result ≡ visible_one c }
 {
-    if is_obeyed(c) {
-        return REPLACEMENT;
-    }
-    c
-}
-
-// Whether a terminal obeys a character, or shows nothing for it.
-fn is_obeyed(c: char) -> bool
-    ensures { result ≡ obeyed c }
-{
-    matches!(
-        c,
+    match c {
         '\0'..='\x1F'
-            | '\x7F'..='\u{9F}'
-            | '\u{61C}'
-            | '\u{200B}'..='\u{200F}'
-            | '\u{2028}'..='\u{202E}'
-            | '\u{2060}'..='\u{206F}'
-            | '\u{FEFF}'
-    )
+        | '\x7F'..='\u{9F}'
+        | '\u{61C}'
+        | '\u{200B}'..='\u{200F}'
+        | '\u{2028}'..='\u{202E}'
+        | '\u{2060}'..='\u{206F}'
+        | '\u{FEFF}' => REPLACEMENT,
+        _ => c,
+    }
 }

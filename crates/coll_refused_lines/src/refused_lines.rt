@@ -4,10 +4,10 @@
 //! in a block at which line it stands. Where a survey doesn't find the fault all of the line is marked; without a survey so is what the
 //! number of the fault tells by itself, and else all.
 
-ghost use Rattle.std.specs.Prelude.{◌≡◌, chars, IfOk, IfSome, None};
+ghost use Rattle.std.specs.Prelude.{◌≡◌, IfOk, IfSome, None};
 ghost use Rattle.coll_devices.specs.Devices.{Writes};
 ghost use Rattle.coll_findings.specs.declared.findings.About.TheVariants as about;
-ghost use Rattle.coll_refused_lines.specs.RefusedLines.{IsFirstPart, IsOfLine, advice_told, near_told, refused_text, shown_told, what_to_do};
+ghost use Rattle.coll_refused_lines.specs.RefusedLines.{IsFirstPart, IsOfLine, advice_told, refused_text, shown_told, what_to_do};
 
 use crate::marked_lines::{MarkedLine, marked_line};
 use crate::numbered_lines::{lexer_at, line_at};
@@ -148,21 +148,13 @@ fn refused_by(
         warnings,
     } = told;
     drop(warnings);
-    let found = found_as(fault, &mut faults);
-    drop(faults);
-    refused_as(alloc, found, text)
-}
-
-// What is told of a fault of a text that was found.
-fn refused_as(alloc: Global, found: FoundFault, text: &[u8]) -> Result<RefusedLine, AllocError>
-    ensures { IfOk result (λ refused. IfSome refused.shown (IsOfLine text.now)) }
-{
     let FoundFault {
         fault,
         line,
         about,
         sentence,
-    } = found;
+    } = found_as(fault, &mut faults);
+    drop(faults);
     match shown_at(alloc, fault.fault.number(), line, &about, text) {
         Ok(shown) => Ok(RefusedLine {
             shown,
@@ -272,7 +264,11 @@ fn write_shown<'a, W: Sink>(shown: &'a Option<MarkedLine>, out: &mut W) -> Resul
 }
 
 // Writes what to do, by what a fault is about.
-fn write_advice<W: Sink>(sentence: &str, about: &About, out: &mut W) -> Result<(), WriteStop>
+fn write_advice<'a, W: Sink>(
+    sentence: &'a str,
+    about: &'a About,
+    out: &mut W,
+) -> Result<(), WriteStop>
     ensures { Writes (W.taken out.old) (W.taken out.new) (W.failed out.old) (W.failed out.new) (advice_told sentence.now about.now) result }
 {
     match about {
@@ -280,7 +276,15 @@ fn write_advice<W: Sink>(sentence: &str, about: &About, out: &mut W) -> Result<(
         About::Id {
             near: Some(near),
             ..
-        } => write_near(sentence, near.get(), out),
+        } => write_pieces(
+            out,
+            &[
+                Piece::Bytes(sentence.as_bytes()),
+                Piece::Bytes(b"; is "),
+                Piece::Symbol(near.get()),
+                Piece::Bytes(b" meant?\n"),
+            ],
+        ),
         About::Word(word) => write_alone(word.ours, out),
     }
 }
@@ -292,20 +296,5 @@ fn write_alone<'a, W: Sink>(sentence: &'a str, out: &mut W) -> Result<(), WriteS
     write_pieces(
         out,
         &[Piece::Bytes(sentence.as_bytes()), Piece::Bytes(b"\n")],
-    )
-}
-
-// Writes what to do, and a declared name that is near.
-fn write_near<'a, W: Sink>(sentence: &'a str, near: &'a str, out: &mut W) -> Result<(), WriteStop>
-    ensures { Writes (W.taken out.old) (W.taken out.new) (W.failed out.old) (W.failed out.new) (near_told sentence.now (chars near.now)) result }
-{
-    write_pieces(
-        out,
-        &[
-            Piece::Bytes(sentence.as_bytes()),
-            Piece::Bytes(b"; is "),
-            Piece::Symbol(near),
-            Piece::Bytes(b" meant?\n"),
-        ],
     )
 }

@@ -12,7 +12,7 @@ use coll_syntax::Id;
 use std::str::from_utf8;
 
 /// A part of a line: its bytes from the first place on, and before the second.
-#[derive(Clone, Copy, Debug, PartialEq, Eq)]
+#[derive(Clone, Copy)]
 pub(crate) struct Place {
     /// Where it begins.
     pub start: usize,
@@ -56,19 +56,9 @@ pub(crate) fn place_in(lexer: &mut Lexer, line: &[u8], sought: Sought<'_>) -> Pl
         _ => place_of_token(lexer, line, sought),
     };
     match found {
-        Some(place) => if_within(line, place),
-        None => without_blanks(line),
+        Some(place) if place.start <= place.end && place.end <= line.len() => place,
+        _ => without_blanks(line),
     }
-}
-
-// A place, if it stands in a line; else all of the line but the blanks around it.
-fn if_within(line: &[u8], place: Place) -> Place
-    ensures { IsPartOf line.now result }
-{
-    if place.start <= place.end && place.end <= line.len() {
-        return place;
-    }
-    without_blanks(line)
 }
 
 // All of a line but the blanks around it.
@@ -235,14 +225,17 @@ fn is_refused(lexer: &mut Lexer, token: &str, number: u8) -> bool {
     refused
 }
 
-// Whether a token spells an identifier.
+// Whether a token spells an identifier: a character by its code point, or as it is.
 fn spells(escape: char, token: &str, id: &Id) -> bool {
     match id {
         Id::Named(name) => match inside(token) {
             Some(spelled) => is_same_unescaped(escape, spelled, name.get()),
             None => false,
         },
-        Id::Char(c) => spells_char(escape, token, *c),
+        Id::Char(c) => match inside(token) {
+            Some(spelled) => code_point(spelled) == Some(u32::from(*c)),
+            None => is_letter(escape, token, *c),
+        },
         Id::Undefined => is_same_unescaped(escape, token, "UNDEFINED"),
     }
 }
@@ -251,17 +244,6 @@ fn spells(escape: char, token: &str, id: &Id) -> bool {
 fn inside(token: &str) -> Option<&str> {
     let behind = token.strip_prefix("<")?;
     behind.strip_suffix(">")
-}
-
-// Whether a token spells a character: by its code point, or as it is.
-fn spells_char(escape: char, token: &str, c: char) -> bool {
-    match inside(token) {
-        Some(spelled) => match code_point(spelled) {
-            Some(number) => number == u32::from(c),
-            None => false,
-        },
-        None => is_letter(escape, token, c),
-    }
 }
 
 // Whether a token is a character, perhaps behind an escape character.

@@ -1,10 +1,9 @@
 -- What the lines of a delta file leave, and what is told of all of them.
-use Rattle.std.proofs.Common.{◌≡◌, ℕ, nat_le, Bool, true, false, if◌then◌else◌, List, [], ◌∷◌, length, map, Option, Some, None, Result, Ok, Err, refl, sym, ap, ◌∙◌, subst}
+use Rattle.std.proofs.Common.{◌≡◌, ℕ, List, [], ◌∷◌, map, Option, Some, None, Result, Ok, Err, refl, sym, ap, ◌∙◌, subst}
 use Rattle.std.specs.Prelude.{IfOk, IfSome, IsOk, OnOk, option_map}
 use Rattle.std.proofs.lemmas.Bool.{false≢true}
 use Rattle.coll_lex.specs.declared.early_ends.EarlyEnd.{EarlyEnd}
 use Rattle.coll_requests.specs.DeltaFaults.{early_fault}
-use Rattle.coll_requests.specs.Limits.{most_block_lines}
 use Rattle.coll_syntax.specs.declared.identifiers.Id.{Id}
 use Rattle.coll_syntax.specs.declared.lines.DeltaLine.{DeltaLine}
 use Rattle.coll_syntax.specs.declared.lines.DeltaLine.TheVariants as line
@@ -15,22 +14,16 @@ use Rattle.coll_nodes.specs.TableLayout.{TableValue, collation}
 use Rattle.coll_findings.specs.SurveyedLines.{Handed, Takes}
 use Rattle.coll_findings.specs.ToldFaults.{AreAmong, Tells, told_fault}
 use Rattle.coll_surveys.specs.DeltaSurveys.{BlockState, DeltaState, EndedState, TellsDeltaLine, block_faults, block_left, block_state, closed, closed_left, delta_end, delta_faults, delta_left, delta_lines}
-use Rattle.coll_surveys.specs.DeltaSurveys.{delta_state, early_faults, ended_block, ended_faults, ended_left, faults_told, first_block, first_state, left_alone, left_by, left_by_bare, left_by_line, left_by_order}
-use Rattle.coll_surveys.specs.DeltaSurveys.{left_passed, lines_faults, lines_left, opened, table_behind, table_left, text_end_faults, text_end_left, text_faults, text_left, with_order}
+use Rattle.coll_surveys.specs.DeltaSurveys.{delta_state, early_faults, ended_block, ended_faults, ended_left, faults_by, faults_told, first_block, first_state, left_alone, left_by, left_by_bare, left_by_line}
+use Rattle.coll_surveys.specs.DeltaSurveys.{lines_faults, lines_left, opened, table_behind, table_left, text_end_faults, text_end_left, text_faults, text_left}
 use Rattle.coll_findings.specs.declared.collecting.Surveyed.{Surveyed}
 use Rattle.coll_surveys.specs.declared.delta_surveys.DeltaSurvey.{DeltaSurvey}
 use Rattle.coll_findings.specs.declared.findings.FoundFault.{FoundFault}
-use Rattle.coll_findings.specs.declared.line_surveys.Opening.{Opening}
 use Rattle.coll_surveys.specs.declared.open_blocks.OpenBlock.{OpenBlock}
 use Rattle.coll_surveys.proofs.TableLemmas.{among_told, told_more_given}
 use Rattle.coll_surveys.proofs.TellingLemmas.{told_none, told_on, told_on_ok}
 
 -- What one call leaves.
-
--- what holds anyway
-pub on_ok : {T E P : Type 0} (r : Result T E) → P → OnOk r P
-on_ok (Ok x) p = p
-on_ok (Err e) p = tt
 
 -- where a survey stands, by its parts
 abbrev pub state : Collation → Option BlockState → DeltaState
@@ -38,10 +31,6 @@ state table block = record { table = table; block = block }
 
 stands : (survey : DeltaSurvey) (table : Collation) (block : Option BlockState) → table_left survey ≡ table → block_left survey ≡ block → delta_state survey ≡ state table block
 stands survey table block table_is block_is = ap (λ (t : Collation). state t (block_left survey)) table_is ∙ ap (λ (b : Option BlockState). state table b) block_is
-
--- nothing is left anew
-pub still : (old new : DeltaSurvey) → new.table ≡ old.table → new.block ≡ old.block → delta_state new ≡ delta_state old
-still old new table block = stands new (table_left old) (block_left old) (ap collation table) (ap (option_map block_state) block)
 
 -- no block is open, so none ends
 pub none_ends : (table : Collation) (old new : Option OpenBlock) → old ≡ None → new ≡ None
@@ -71,37 +60,15 @@ opened_behind old mid block one number target ends is first =
     ap (λ (s : DeltaState). state s.table (option_map block_state block)) ends
     ∙ ap (state (closed_left (table_left old) (block_left old))) (ap (option_map block_state) is ∙ ap Some first)
 
--- an order line of the block that is open, if that can take it
-pub order_joins : {T E : Type 0} (table : Collation) (old new : Option OpenBlock) (one after : OpenBlock) (number : ℕ) (order : OrderLine) (full : Bool) (r : Result T E) → old ≡ Some one
-    → full ≡ nat_le most_block_lines (length one.lines.items) → full ≡ false → new ≡ Some after → OnOk r (block_state after ≡ with_order (block_state one) number order)
-    → OnOk r (state table (option_map block_state new) ≡ left_by_order table (option_map block_state old) number order)
-order_joins table old new one after number order full (Ok x) was test room is joined =
-    ap (λ (b : Option OpenBlock). state table (option_map block_state b)) is
-    ∙ ap (λ (b : BlockState). state table (Some b))
-    (joined ∙ sym (ap (λ (b : Bool). if b then record (block_state one) { overfull = true } else with_order (block_state one) number order) (sym test ∙ room)))
-    ∙ sym (ap (λ (b : Option OpenBlock). left_by_order table (option_map block_state b) number order) was)
-order_joins table old new one after number order full (Err e) was test room is joined = tt
-
-pub order_stays : (table : Collation) (old new : Option OpenBlock) (one after : OpenBlock) (number : ℕ) (order : OrderLine) (full : Bool) → old ≡ Some one
-    → full ≡ nat_le most_block_lines (length one.lines.items) → full ≡ true → new ≡ Some after → block_state after ≡ record (block_state one) { overfull = true }
-    → state table (option_map block_state new) ≡ left_by_order table (option_map block_state old) number order
-order_stays table old new one after number order full was test many is marked =
-    ap (λ (b : Option OpenBlock). state table (option_map block_state b)) is
-    ∙ ap (λ (b : BlockState). state table (Some b))
-    (marked ∙ sym (ap (λ (b : Bool). if b then record (block_state one) { overfull = true } else with_order (block_state one) number order) (sym test ∙ many)))
-    ∙ sym (ap (λ (b : Option OpenBlock). left_by_order table (option_map block_state b) number order) was)
-
 -- a statement that is a line of its own
-pub alone_leaves : (old mid new : DeltaSurvey) (s : Statement) → mid.table ≡ old.table → mid.block ≡ old.block → table_left new ≡ table_behind (table_left mid) s → new.block ≡ mid.block
-    → delta_state new ≡ left_alone (delta_state old) s
-alone_leaves old mid new s table block left same =
-    stands new (table_behind (table_left old) s) (block_left old) (left ∙ ap (λ (t : TableValue). table_behind (collation t) s) table) (ap (option_map block_state) (same ∙ block))
+pub alone_leaves : (old new : DeltaSurvey) (s : Statement) → table_left new ≡ table_behind (table_left old) s → new.block ≡ old.block → delta_state new ≡ left_alone (delta_state old) s
+alone_leaves old new s left same = stands new (table_behind (table_left old) s) (block_left old) left (ap (option_map block_state) same)
 
--- a refused line, also behind its own fault
-pub passed_leaves : {T E : Type 0} (old mid new : DeltaSurvey) (number : ℕ) (opening : Opening) (r : Result T E) → mid.table ≡ old.table → mid.block ≡ old.block
-    → OnOk r (delta_state new ≡ left_passed (delta_state mid) number opening) → OnOk r (delta_state new ≡ left_passed (delta_state old) number opening)
-passed_leaves old mid new number opening r table block left =
-    subst (λ (s : DeltaState). OnOk r (delta_state new ≡ left_passed s number opening)) (still old mid table block) left
+-- what is told of a line that is handed on, and what it leaves
+pub line_told : {T E : Type 0} (old new : DeltaSurvey) (handed : Handed) (r : Result T E) → OnOk r (Tells (faults_told old) (faults_told new) (faults_by (table_left old) (block_left old) handed))
+    → OnOk r (delta_state new ≡ left_by (delta_state old) handed) → OnOk r (TellsDeltaLine old handed new)
+line_told old new handed (Ok x) told left = record { told = told; left = left }
+line_told old new handed (Err e) told left = tt
 
 -- a line that is a keyword alone
 pub idle_left : (s : DeltaState) (read : DeltaLine) → (read ≡ line.ReorderEnd → ⊥) → (read ≡ line.EndCategory → ⊥) → s ≡ left_by_bare s read

@@ -250,12 +250,10 @@ refused_behind table s found n long some accepted = by (delta table s) refl wher
   by (Err refusal) answer = sym (ap (λ (r : Result Collation Refusal). if is_proper s then table_after table r else table) answer ∙ same (is_proper s))
 
 -- what is left is put to the table, if something is
-pub left_behind : {T E : Type 0} (table mid after : Collation) (b : Bool) (s : Statement) (left : Option Statement) (r : Result T E) → (if b then Some s else None) ≡ left → b ≡ true → mid ≡ table
-    → OnOk r (after ≡ table_behind mid s) → OnOk r (after ≡ table_behind_left table left)
-left_behind table mid after b s left (Ok x) is some same behind =
-    behind ∙ ap (λ (t : Collation). table_behind t s) same ∙ ap (table_behind_left table) (sym (ap (λ (x : Bool). if x then Some s else None) some) ∙ is)
-left_behind table mid after b s left (Err e) is some same behind = tt
+pub left_behind : {T E : Type 0} (table after : Collation) (b : Bool) (s : Statement) (left : Option Statement) (r : Result T E) → (if b then Some s else None) ≡ left → b ≡ true
+    → OnOk r (after ≡ table_behind table s) → OnOk r (after ≡ table_behind_left table left)
+left_behind table after b s left (Ok x) is some behind = behind ∙ ap (table_behind_left table) (sym (ap (λ (x : Bool). if x then Some s else None) some) ∙ is)
+left_behind table after b s left (Err e) is some behind = tt
 
-pub nothing_behind : (table after : Collation) (b : Bool) (s : Statement) (left : Option Statement) → (if b then Some s else None) ≡ left → b ≡ false → after ≡ table
-    → after ≡ table_behind_left table left
-nothing_behind table after b s left is none same = same ∙ ap (table_behind_left table) (sym (ap (λ (x : Bool). if x then Some s else None) none) ∙ is)
+pub nothing_behind : (table : Collation) (b : Bool) (s : Statement) (left : Option Statement) → (if b then Some s else None) ≡ left → b ≡ false → table ≡ table_behind_left table left
+nothing_behind table b s left is none = ap (table_behind_left table) (sym (ap (λ (x : Bool). if x then Some s else None) none) ∙ is)

@@ -34,17 +34,12 @@ lines_leave [] old new same = ap survey_state same
 lines_leave (handed ∷ later) old new (mid, one, on) = lines_leave later mid new on ∙ ap (λ (s : SurveyState). lines_left s later) one.left
 
 -- the same with how the text ends: at its end, or behind the line that ends its category
-pub told_to_end : {T E : Type 0} (handed : List Handed) (old mid new : TableSurvey) (found early : Option EarlyEnd) (end : EarlyEnd) (r : Result T E) → Takes TellsLine handed old mid → found ≡ early
-    → found ≡ Some end → OnOk r (Tells (told_of_table mid) (told_of_table new) (load_fault (early_fault end) ∷ []))
-    → OnOk r (Tells (told_of_table old) (told_of_table new) (lines_faults (survey_state old) handed ++ end_faults early))
+pub told_to_end : {T E : Type 0} (handed : List Handed) (old mid : TableSurvey) (new : List FoundFault) (found early : Option EarlyEnd) (end : EarlyEnd) (r : Result T E) → Takes TellsLine handed old mid
+    → found ≡ early → found ≡ Some end → OnOk r (Tells (told_of_table mid) new (load_fault (early_fault end) ∷ []))
+    → OnOk r (Tells (told_of_table old) new (lines_faults (survey_state old) handed ++ end_faults early))
 told_to_end handed old mid new found early end r taken ends is told =
-    told_on_ok (told_of_table old) (told_of_table mid) (told_of_table new) (lines_faults (survey_state old) handed) (end_faults early) r (lines_told handed old mid taken)
-    (subst (λ (e : Option EarlyEnd). OnOk r (Tells (told_of_table mid) (told_of_table new) (end_faults e))) (sym is ∙ ends) told)
-
-pub left_to_end : {T E : Type 0} (handed : List Handed) (old mid new : TableSurvey) (r : Result T E) → Takes TellsLine handed old mid → survey_state new ≡ survey_state mid
-    → OnOk r (survey_state new ≡ lines_left (survey_state old) handed)
-left_to_end handed old mid new (Ok x) taken same = same ∙ lines_leave handed old mid taken
-left_to_end handed old mid new (Err e) taken same = tt
+    told_on_ok (told_of_table old) (told_of_table mid) new (lines_faults (survey_state old) handed) (end_faults early) r (lines_told handed old mid taken)
+    (subst (λ (e : Option EarlyEnd). OnOk r (Tells (told_of_table mid) new (end_faults e))) (sym is ∙ ends) told)
 
 -- more may be given behind
 pub told_more_given : (a b : List FoundFault) (given later : List LineFault) → Tells a b given → Tells a b (given ++ later)

@@ -1,32 +1,23 @@
 -- What is told behind the faults that were told.
 use Rattle.std.proofs.Common.{◌≡◌, ◌≤◌, ◌<◌, ℕ, ◌+◌, List, [], ◌∷◌, ◌++◌, get_or, length, map, take, Option, Some, Result, Ok, Err, refl, sym, ap, ◌∙◌, subst, append_assoc, append-nil, inl, inr}
 use Rattle.std.specs.List.{flat_map}
-use Rattle.std.specs.Prelude.{OnOk, option_map}
+use Rattle.std.specs.Prelude.{OnOk}
 use Rattle.std.proofs.lemmas.Grind.{flat_map-append}
 use Rattle.std.proofs.lemmas.List.{map-append, take_all, take_more}
 use Rattle.coll_syntax.specs.declared.lines.TableLine.{TableLine}
-use Rattle.coll_syntax.specs.declared.statements.Statement.{Statement}
 use Rattle.coll_nodes.specs.Table.{Collation}
-use Rattle.coll_nodes.specs.TableLayout.{TableValue, collation}
 use Rattle.coll_texts.specs.BuilderStates.{BuilderState, line_fault}
 use Rattle.coll_advice.specs.declared.found.Found.{Found}
 use Rattle.coll_faults.specs.declared.faults.Fault.TheVariants as fault
-use Rattle.coll_surveys.specs.DeltaSurveys.{BlockState, alone_faults, block_faults, block_left, block_state, category_faults, faults_told, open_faults, passed_faults, statement_faults, table_left}
+use Rattle.coll_surveys.specs.DeltaSurveys.{BlockState, block_faults, category_faults}
 use Rattle.coll_surveys.specs.TableSurveys.{bare_line, judged_faults, judging, line_faults, load_faults, outside_faults, told_of_table}
 use Rattle.coll_findings.specs.ToldFaults.{AreAmong, LineFault, Tells, at_line, told_fault}
-use Rattle.coll_surveys.specs.declared.delta_surveys.DeltaSurvey.{DeltaSurvey}
 use Rattle.coll_findings.specs.declared.findings.FoundFault.{FoundFault}
-use Rattle.coll_findings.specs.declared.line_surveys.Opening.{Opening}
-use Rattle.coll_surveys.specs.declared.open_blocks.OpenBlock.{OpenBlock}
 use Rattle.coll_surveys.specs.declared.table_surveys.TableSurvey.{TableSurvey}
 
 -- nothing was told
 pub told_none : (old new : List FoundFault) (given : List LineFault) → new ≡ old → Tells old new given
 told_none old new given same = ([], same ∙ sym (append-nil old), tt)
-
--- one was told
-pub told_one : (old new : List FoundFault) (one : FoundFault) → new ≡ old ++ one ∷ [] → Tells old new (told_fault one ∷ [])
-told_one old new one is = (one ∷ [], is, inl (refl, tt))
 
 later_among : (told : List LineFault) (one : LineFault) (given : List LineFault) → AreAmong told given → AreAmong told (one ∷ given)
 later_among [] one given p = tt
@@ -47,47 +38,19 @@ told_on a b c given later (told, is, among) (more, is_then, among_then) = (
   subst (λ (l : List LineFault). AreAmong l (given ++ later)) (sym (map-append told_fault told more)) (among_append (map told_fault told) given (map told_fault more) later among among_then),
 )
 
--- the same where the second ones begin with what was left as it was
-pub told_then : (a b d c : List FoundFault) (given later : List LineFault) → Tells a b given → d ≡ b → Tells d c later → Tells a c (given ++ later)
-told_then a b d c given later first same second = told_on a b c given later first (subst (λ (l : List FoundFault). Tells l c later) same second)
+-- what holds anyway, and what is told behind others, also where there is no answer
+pub on_ok : {T E P : Type 0} (r : Result T E) → P → OnOk r P
+on_ok (Ok x) p = p
+on_ok (Err e) p = tt
 
--- what was told behind others that stay
-pub told_behind : (a b c : List FoundFault) (given : List LineFault) → b ≡ a → Tells b c given → Tells a c given
-told_behind a b c given same tells = subst (λ (l : List FoundFault). Tells l c given) same tells
-
--- nothing is told behind them
-pub told_still : (a b c : List FoundFault) (given : List LineFault) → Tells a b given → c ≡ b → Tells a c given
-told_still a b c given tells same = subst (λ (l : List FoundFault). Tells a l given) (sym same) tells
-
--- the same of an answer
 pub told_on_ok : {T E : Type 0} (a b c : List FoundFault) (given later : List LineFault) (r : Result T E) → Tells a b given → OnOk r (Tells b c later) → OnOk r (Tells a c (given ++ later))
 told_on_ok a b c given later (Ok x) first second = told_on a b c given later first second
 told_on_ok a b c given later (Err e) first second = tt
-
-pub told_still_ok : {T E : Type 0} (a b c : List FoundFault) (given : List LineFault) (r : Result T E) → Tells a b given → c ≡ b → OnOk r (Tells a c given)
-told_still_ok a b c given (Ok x) tells same = told_still a b c given tells same
-told_still_ok a b c given (Err e) tells same = tt
-
--- a statement that is a line of its own: it may not stand in the block that is open, and what is wrong with it stands behind that
-pub alone_told : (old mid new : DeltaSurvey) (number : ℕ) (s : Statement) → Tells (faults_told old) (faults_told mid) (open_faults (block_left old) number) → mid.table ≡ old.table
-    → Tells (faults_told mid) (faults_told new) (statement_faults (table_left mid) number [] s) → Tells (faults_told old) (faults_told new) (alone_faults (table_left old) (block_left old) number s)
-alone_told old mid new number s first same second =
-    told_on (faults_told old) (faults_told mid) (faults_told new) (open_faults (block_left old) number) (statement_faults (table_left old) number [] s) first
-    (subst (λ (t : TableValue). Tells (faults_told mid) (faults_told new) (statement_faults (collation t) number [] s)) same second)
 
 -- the end of the category in an open block
 pub category_ended : (table : Collation) (block : Option BlockState) (b : BlockState) (number : ℕ) → block ≡ Some b
     → category_faults table block number ≡ block_faults table block ++ at_line number fault.BlockNotEnded ∷ []
 category_ended table block b number is = subst (λ (x : Option BlockState). category_faults table x number ≡ block_faults table x ++ at_line number fault.BlockNotEnded ∷ []) (sym is) refl
-
--- a refused line ends what it would end, also behind its own fault
-pub passed_told : {T E : Type 0} (old mid new : DeltaSurvey) (one : LineFault) (opening : Opening) (r : Result T E) → Tells (faults_told old) (faults_told mid) (one ∷ []) → mid.table ≡ old.table
-    → mid.block ≡ old.block → OnOk r (Tells (faults_told mid) (faults_told new) (passed_faults (table_left mid) (block_left mid) opening))
-    → OnOk r (Tells (faults_told old) (faults_told new) (one ∷ passed_faults (table_left old) (block_left old) opening))
-passed_told old mid new one opening r first table block second =
-    told_on_ok (faults_told old) (faults_told mid) (faults_told new) (one ∷ []) (passed_faults (table_left old) (block_left old) opening) r first
-    (subst (λ (t : TableValue). OnOk r (Tells (faults_told mid) (faults_told new) (passed_faults (collation t) (block_left old) opening))) table
-    (subst (λ (b : Option OpenBlock). OnOk r (Tells (faults_told mid) (faults_told new) (passed_faults (table_left mid) (option_map block_state b) opening))) block second))
 
 -- one more of a list is told behind those before it
 pub told_more : (a b c : List FoundFault) (f : Found → LineFault) (xs : List Found) (i : ℕ) (x : Found) → i < length xs → x ≡ get_or xs i x → Tells a b (map f (take i xs))

@@ -101,10 +101,14 @@ impl AcceptedSurvey {
     fn take_other(&mut self, number: u32, read: &TableLine) -> Result<bool, AllocError>
         ensures { IfOk result (λ ended. ended ≡ is_end read.now) }
     {
-        if let TableLine::Script = read {
-            self.told.warn(Warning::ScriptWithoutEffect, number, None)?;
+        match read {
+            TableLine::Script => {
+                self.told.warn(Warning::ScriptWithoutEffect, number, None)?;
+                Ok(false)
+            }
+            TableLine::EndCategory => Ok(true),
+            _ => Ok(false),
         }
-        Ok(matches!(read, TableLine::EndCategory))
     }
 }
 
@@ -122,12 +126,7 @@ impl TakesLines for AcceptedSurvey {
     }
 
     // There is no fault.
-    fn refuse(
-        &mut self,
-        _number: u32,
-        _opening: Opening,
-        _fault: LexFault,
-    ) -> Result<(), AllocError> {
+    fn refuse(&mut self, _: u32, _: Opening, _: LexFault) -> Result<(), AllocError> {
         Ok(())
     }
 }

@@ -6,18 +6,15 @@
 //! is told of a text is stated as a whole.
 
 ghost use Rattle.std.specs.Prelude.{◌≡◌, ◌∷◌, [], map, Some, IfOk, IfSome, OnOk, option_map};
-ghost use Rattle.coll_lex.specs.Names.{AreTokens};
-ghost use Rattle.coll_syntax.specs.DeltaLines.{delta_line};
 ghost use Rattle.coll_nodes.specs.TableLayout.{collation};
 ghost use Rattle.coll_requests.specs.DeltaFaults.{early_fault};
-ghost use Rattle.coll_faults.specs.Faults.{delta_fault_of};
 ghost use Rattle.coll_faults.specs.declared.faults.Fault.TheVariants as refused;
 ghost use Rattle.coll_findings.specs.ToldFaults.{AreAmong, AreOnce, Tells, at_line, told_fault};
-ghost use Rattle.coll_surveys.specs.DeltaSurveys.{TellsDeltaLine, alone_faults, block_faults, block_left, category_faults, closed};
+ghost use Rattle.coll_surveys.specs.DeltaSurveys.{TellsDeltaLine, alone_faults, block_faults, block_left, block_state, category_faults, closed};
 ghost use Rattle.coll_surveys.specs.DeltaSurveys.{delta_faults, delta_left, delta_state, early_faults, end_faults};
 ghost use Rattle.coll_surveys.specs.DeltaSurveys.{ended_faults, ended_left};
-ghost use Rattle.coll_surveys.specs.DeltaSurveys.{ended_state, ends_delta, faults_of_line, faults_told, found_fault, is_delta_end};
-ghost use Rattle.coll_surveys.specs.DeltaSurveys.{left_alone, left_by_bare, left_by_line, left_by_order, left_passed, left_read};
+ghost use Rattle.coll_surveys.specs.DeltaSurveys.{ended_state, ends_delta, faults_told, found_fault, is_delta_end};
+ghost use Rattle.coll_surveys.specs.DeltaSurveys.{left_alone, left_by_bare, left_by_line, left_by_order, left_passed};
 ghost use Rattle.coll_surveys.specs.DeltaSurveys.{line_faults, mended};
 ghost use Rattle.coll_surveys.specs.DeltaSurveys.{open_faults, opened, order_faults, passed_faults, refused_faults, statement_faults};
 ghost use Rattle.coll_surveys.specs.DeltaSurveys.{table_behind, table_behind_block, table_behind_left, table_left, text_faults, text_left};
@@ -105,17 +102,13 @@ impl DeltaSurvey {
         ensures left { OnOk result (delta_state self.new ≡ closed (delta_state self.old)) }
     {
         self.end_block()?;
-        self.tell_fault(DeltaFault::from(end))
-    }
-
-    // Tells a fault of the text.
-    fn tell_fault(&mut self, fault: DeltaFault) -> Result<(), AllocError>
-        ensures told { OnOk result (Tells (faults_told self.old) (faults_told self.new)
-            (at_line fault.line (delta_fault_of fault.line fault.cause) ∷ [])) }
-        ensures table { self.new.table ≡ self.old.table }
-        ensures block { self.new.block ≡ self.old.block }
-    {
-        self.tell(fault.line, Fault::from(fault), About::Nothing)
+        let fault = DeltaFault::from(end);
+        tell(
+            fault.line,
+            Fault::from(fault),
+            About::Nothing,
+            &mut self.told,
+        )
     }
 
     // What a survey gives.
@@ -139,16 +132,8 @@ impl DeltaSurvey {
         }
     }
 
-    // Tells a fault of a line.
-    fn tell(&mut self, number: u32, fault: Fault, about: About) -> Result<(), AllocError>
-        ensures told { OnOk result (Tells (faults_told self.old) (faults_told self.new) (at_line number fault ∷ [])) }
-        ensures table { self.new.table ≡ self.old.table }
-        ensures block { self.new.block ≡ self.old.block }
-    {
-        self.told.tell(number, number, fault, about)
-    }
-
-    // Takes a line at fault by what it begins with: it may end a block, and open one of which the target isn't known.
+    // Takes a line at fault by what it begins with: it may end a block, and open one of which the target isn't known. Else a block that
+    // is open has a line that was refused.
     fn pass_over(&mut self, number: u32, opening: Opening) -> Result<(), AllocError>
         ensures told { OnOk result (Tells (faults_told self.old) (faults_told self.new)
             (passed_faults (table_left self.old) (block_left self.old) opening)) }
@@ -157,44 +142,13 @@ impl DeltaSurvey {
         match opening {
             Opening::Block => self.open_block(number, None),
             Opening::BlockEnd => self.end_block(),
-            Opening::Other => {
-                self.spoil();
-                Ok(())
-            }
-        }
-    }
-
-    // Notes that the block that is open, if one is, has a line that was refused.
-    fn spoil(&mut self)
-        ensures told { self.new.told ≡ self.old.told }
-        ensures left { delta_state self.new ≡ delta_state self.old }
-    {
-        if let Some(block) = &mut self.block {
-            block.spoiled = true;
-        }
-    }
-
-    // Takes a line, and answers whether it ends the category. What is told of it is what judging it gives, over the table and with the
-    // block that the lines before it left, and what it leaves is for those behind it.
-    fn take_line(&mut self, line: &Line, opening: Opening) -> Result<bool, AllocError>
-        requires { AreTokens line.now.tokens }
-        ensures told { OnOk result (Tells (faults_told self.old) (faults_told self.new)
-            (faults_of_line (table_left self.old) (block_left self.old) line.now.number opening line.now.tokens)) }
-        ensures left { OnOk result (delta_state self.new
-            ≡ left_read (delta_state self.old) line.now.number opening (delta_line line.now.tokens)) }
-        ensures ended { IfOk result (λ ended. ended ≡ ends_delta line.now.tokens) }
-    {
-        match parse_delta_line(self.alloc, line) {
-            Ok(read) => {
-                let ends = ends_category(&read);
-                self.take_read(line.number, read)?;
-                Ok(ends)
-            }
-            Err(SyntaxFault::OutOfMemory) => Err(AllocError),
-            Err(fault) => {
-                self.refuse_line(line, fault, opening)?;
-                Ok(false)
-            }
+            Opening::Other => match &mut self.block {
+                Some(block) => {
+                    block.spoiled = true;
+                    Ok(())
+                }
+                None => Ok(()),
+            },
         }
     }
 
@@ -210,23 +164,8 @@ impl DeltaSurvey {
         ensures left { OnOk result (delta_state self.new ≡ left_passed (delta_state self.old) line.now.number opening) }
     {
         let about = refused_subject(self.alloc, line, fault)?;
-        self.tell(line.number, Fault::Syntax(fault), about)?;
+        tell(line.number, Fault::Syntax(fault), about, &mut self.told)?;
         self.pass_over(line.number, opening)
-    }
-
-    // Tells a line that the lexer refuses, and passes it over.
-    fn refuse_lexed(
-        &mut self,
-        number: u32,
-        opening: Opening,
-        fault: LexFault,
-    ) -> Result<(), AllocError>
-        ensures told { OnOk result (Tells (faults_told self.old) (faults_told self.new)
-            (at_line number (refused.Lex fault) ∷ passed_faults (table_left self.old) (block_left self.old) opening)) }
-        ensures left { OnOk result (delta_state self.new ≡ left_passed (delta_state self.old) number opening) }
-    {
-        self.tell(number, Fault::Lex(fault), About::Nothing)?;
-        self.pass_over(number, opening)
     }
 
     // Takes a line that the grammar accepts.
@@ -272,24 +211,12 @@ impl DeltaSurvey {
         }
     }
 
-    // Tells a line that no block takes, where one is open.
-    fn tell_open(&mut self, number: u32) -> Result<(), AllocError>
-        ensures told { OnOk result (Tells (faults_told self.old) (faults_told self.new) (open_faults (block_left self.old) number)) }
-        ensures table { self.new.table ≡ self.old.table }
-        ensures block { self.new.block ≡ self.old.block }
-    {
-        match self.block {
-            Some(_) => self.tell(number, Fault::BlockOpen, About::Nothing),
-            None => Ok(()),
-        }
-    }
-
     // Takes a line that has no effect, and warns of it.
     fn take_idle(&mut self, number: u32, warning: Option<Warning>) -> Result<(), AllocError>
         ensures told { OnOk result (Tells (faults_told self.old) (faults_told self.new) (open_faults (block_left self.old) number)) }
         ensures left { delta_state self.new ≡ delta_state self.old }
     {
-        self.tell_open(number)?;
+        tell_open(number, &self.block, &mut self.told)?;
         match warning {
             Some(warning) => self.told.warn(warning, number, None),
             None => Ok(()),
@@ -305,7 +232,7 @@ impl DeltaSurvey {
         match self.block {
             Some(_) => {
                 self.end_block()?;
-                self.tell(number, Fault::BlockNotEnded, About::Nothing)
+                tell(number, Fault::BlockNotEnded, About::Nothing, &mut self.told)
             }
             None => Ok(()),
         }
@@ -319,7 +246,7 @@ impl DeltaSurvey {
     {
         match self.block {
             Some(_) => self.end_block(),
-            None => self.tell(number, Fault::NoBlock, About::Nothing),
+            None => tell(number, Fault::NoBlock, About::Nothing, &mut self.told),
         }
     }
 
@@ -354,55 +281,23 @@ impl DeltaSurvey {
             (alone_faults (table_left self.old) (block_left self.old) number statement.now)) }
         ensures left { OnOk result (delta_state self.new ≡ left_alone (delta_state self.old) statement.now) }
     {
-        self.tell_open(number)?;
+        tell_open(number, &self.block, &mut self.told)?;
         if self.judge(number, statement)? {
-            return self.note(number, statement);
+            return note(number, statement, &mut self.declarations);
         }
         Ok(())
     }
 
-    // Notes the name of a symbol or an element that a statement declares.
-    fn note(&mut self, number: u32, statement: &Statement) -> Result<(), AllocError>
-        ensures told { self.new.told ≡ self.old.told }
-        ensures table { self.new.table ≡ self.old.table }
-        ensures block { self.new.block ≡ self.old.block }
-    {
-        match statement {
-            Statement::Symbol(name) => {
-                let name = name.try_copy()?;
-                self.declarations
-                    .declare(number, DeclaredName::Symbol(name))
-            }
-            Statement::Element { name, .. } => {
-                let name = name.try_copy()?;
-                self.declarations
-                    .declare(number, DeclaredName::Element(name))
-            }
-            _ => Ok(()),
-        }
-    }
-
-    // Takes an order line, in a block or outside of one.
+    // Puts an order line into the block that is open, and tells the first one that is too many; where none is, it is judged.
     fn take_order(&mut self, number: u32, order: OrderLine) -> Result<(), AllocError>
         ensures told { OnOk result (Tells (faults_told self.old) (faults_told self.new)
             (order_faults (table_left self.old) (block_left self.old) number order)) }
         ensures left { OnOk result (delta_state self.new ≡ left_by_order (table_left self.old) (block_left self.old) number order) }
     {
-        match self.mention(&order.id) {
-            Ok(()) => self.put_order(number, order),
-            Err(error) => {
-                drop(order);
-                Err(error)
-            }
+        if let Err(error) = mention(self.alloc, &self.table, &order.id, &mut self.declarations) {
+            drop(order);
+            return Err(error);
         }
-    }
-
-    // Puts an order line into the block that is open, and tells the first one that is too many; where none is, it is judged.
-    fn put_order(&mut self, number: u32, order: OrderLine) -> Result<(), AllocError>
-        ensures told { OnOk result (Tells (faults_told self.old) (faults_told self.new)
-            (order_faults (table_left self.old) (block_left self.old) number order)) }
-        ensures left { OnOk result (delta_state self.new ≡ left_by_order (table_left self.old) (block_left self.old) number order) }
-    {
         match &mut self.block {
             Some(block) if !block.is_full() => block.push(number, order),
             Some(block) => {
@@ -412,27 +307,9 @@ impl DeltaSurvey {
                 }
                 block.overfull = true;
                 let fault = Fault::Syntax(SyntaxFault::BlockTooLong);
-                self.tell(number, fault, About::Nothing)
+                tell(number, fault, About::Nothing, &mut self.told)
             }
             None => self.take_alone(number, Statement::Reweight(order)),
-        }
-    }
-
-    // Notes the identifier of an order line, by its own name.
-    fn mention(&mut self, id: &Id) -> Result<(), AllocError>
-        ensures told { self.new.told ≡ self.old.told }
-        ensures table { self.new.table ≡ self.old.table }
-        ensures block { self.new.block ≡ self.old.block }
-    {
-        let Id::Named(name) = id else {
-            return Ok(());
-        };
-        match self.table.resolve(name.get()) {
-            Some(own) => {
-                let own = TextBuf::copied(self.alloc, own)?;
-                self.declarations.mention(&Id::Named(own))
-            }
-            None => Ok(()),
         }
     }
 
@@ -494,9 +371,14 @@ impl DeltaSurvey {
         ensures block { self.new.block ≡ self.old.block }
     {
         let left = block.mend(self.alloc, found);
-        self.tell_found(block.begins, block.numbers.as_slice(), found)?;
+        tell_found(
+            block.begins,
+            block.numbers.as_slice(),
+            found,
+            &mut self.told,
+        )?;
         if left {
-            return self.put_mended(&block.statement);
+            return put_mended(&block.statement, &mut self.table);
         }
         Ok(())
     }
@@ -518,39 +400,10 @@ impl DeltaSurvey {
             self.put(number, statement, in_block)?;
             return Ok(true);
         }
-        let told = self.tell_found(number, &[], found.as_slice());
+        let told = tell_found(number, &[], found.as_slice(), &mut self.told);
         drop(found);
         told?;
         Ok(false)
-    }
-
-    // Tells the faults that were found in a statement that begins at a line, and of which these are the numbers of the lines.
-    fn tell_found(
-        &mut self,
-        begins: u32,
-        numbers: &[u32],
-        found: &[Found],
-    ) -> Result<(), AllocError>
-        ensures told { OnOk result (Tells (faults_told self.old) (faults_told self.new) (map (found_fault begins numbers.now) found.now)) }
-        ensures table { self.new.table ≡ self.old.table }
-        ensures block { self.new.block ≡ self.old.block }
-    {
-        for fault in found {
-            self.tell_one(begins, numbers, fault)?;
-        }
-        Ok(())
-    }
-
-    // Tells a fault that was found in a statement like that.
-    fn tell_one(&mut self, begins: u32, numbers: &[u32], found: &Found) -> Result<(), AllocError>
-        ensures told { OnOk result (Tells (faults_told self.old) (faults_told self.new) (found_fault begins numbers.now found.now ∷ [])) }
-        ensures table { self.new.table ≡ self.old.table }
-        ensures block { self.new.block ≡ self.old.block }
-    {
-        let about = about_found(found)?;
-        let line = line_of(begins, numbers, found);
-        self.told
-            .tell(begins, line, Fault::Table(found.refusal), about)
     }
 
     // Puts a statement without fault to the table, and warns where it changes nothing, unless a part of it was refused.
@@ -573,26 +426,12 @@ impl DeltaSurvey {
                 Ok(())
             }
             Err(Refusal::OutOfMemory) => Err(AllocError),
-            Err(refusal) => self.tell(number, Fault::Table(refusal), About::Nothing),
-        }
-    }
-
-    // Puts what is left of a block to the table. Where that is refused, the block was told already.
-    fn put_mended(&mut self, statement: &Statement) -> Result<(), AllocError>
-        ensures told { self.new.told ≡ self.old.told }
-        ensures left { OnOk result (table_left self.new ≡ table_behind (table_left self.old) statement.now) }
-        ensures block { self.new.block ≡ self.old.block }
-    {
-        if !statement.is_proper() {
-            return Ok(());
-        }
-        match self.table.apply(statement) {
-            Ok(record) => {
-                drop(record);
-                Ok(())
-            }
-            Err(Refusal::OutOfMemory) => Err(AllocError),
-            Err(_) => Ok(()),
+            Err(refusal) => tell(
+                number,
+                Fault::Table(refusal),
+                About::Nothing,
+                &mut self.told,
+            ),
         }
     }
 }
@@ -602,12 +441,117 @@ impl TakesLines for DeltaSurvey {
 
     ghost ends = { ends_delta };
 
+    // What is told of a line is what judging it gives, over the table and with the block that the lines before it left, and what it leaves
+    // is for those behind it.
     fn take(&mut self, line: &Line, opening: Opening) -> Result<bool, AllocError> {
-        self.take_line(line, opening)
+        match parse_delta_line(self.alloc, line) {
+            Ok(read) => {
+                let ends = ends_category(&read);
+                self.take_read(line.number, read)?;
+                Ok(ends)
+            }
+            Err(SyntaxFault::OutOfMemory) => Err(AllocError),
+            Err(fault) => {
+                self.refuse_line(line, fault, opening)?;
+                Ok(false)
+            }
+        }
     }
 
+    // A line that the lexer refuses is told, and passed over.
     fn refuse(&mut self, number: u32, opening: Opening, fault: LexFault) -> Result<(), AllocError> {
-        self.refuse_lexed(number, opening, fault)
+        tell(number, Fault::Lex(fault), About::Nothing, &mut self.told)?;
+        self.pass_over(number, opening)
+    }
+}
+
+// Tells a fault of a line.
+fn tell(number: u32, fault: Fault, about: About, told: &mut Collected) -> Result<(), AllocError>
+    ensures { OnOk result (Tells told.old.told.faults.items told.new.told.faults.items (at_line number fault ∷ [])) }
+{
+    told.tell(number, number, fault, about)
+}
+
+// Tells a line that no block takes, where one is open.
+fn tell_open(number: u32, block: &Option<OpenBlock>, told: &mut Collected) -> Result<(), AllocError>
+    ensures { OnOk result (Tells told.old.told.faults.items told.new.told.faults.items
+        (open_faults (option_map block_state block.now) number)) }
+{
+    match block {
+        Some(_) => tell(number, Fault::BlockOpen, About::Nothing, told),
+        None => Ok(()),
+    }
+}
+
+// Tells the faults that were found in a statement that begins at a line, and of which these are the numbers of the lines.
+fn tell_found(
+    begins: u32,
+    numbers: &[u32],
+    found: &[Found],
+    told: &mut Collected,
+) -> Result<(), AllocError>
+    ensures { OnOk result (Tells told.old.told.faults.items told.new.told.faults.items (map (found_fault begins numbers.now) found.now)) }
+{
+    for fault in found {
+        let about = about_found(fault)?;
+        let line = line_of(begins, numbers, fault);
+        told.tell(begins, line, Fault::Table(fault.refusal), about)?;
+    }
+    Ok(())
+}
+
+// Puts what is left of a block to a table. Where that is refused, the block was told already.
+fn put_mended(statement: &Statement, table: &mut Table) -> Result<(), AllocError>
+    ensures { OnOk result (collation table.new ≡ table_behind (collation table.old) statement.now) }
+{
+    if !statement.is_proper() {
+        return Ok(());
+    }
+    match table.apply(statement) {
+        Ok(record) => {
+            drop(record);
+            Ok(())
+        }
+        Err(Refusal::OutOfMemory) => Err(AllocError),
+        Err(_) => Ok(()),
+    }
+}
+
+// Notes the name of a symbol or an element that a statement declares.
+fn note(
+    number: u32,
+    statement: &Statement,
+    declarations: &mut Declarations,
+) -> Result<(), AllocError> {
+    match statement {
+        Statement::Symbol(name) => {
+            let name = name.try_copy()?;
+            declarations.declare(number, DeclaredName::Symbol(name))
+        }
+        Statement::Element { name, .. } => {
+            let name = name.try_copy()?;
+            declarations.declare(number, DeclaredName::Element(name))
+        }
+        _ => Ok(()),
+    }
+}
+
+// Notes the identifier of an order line, by its own name in a table.
+fn mention(
+    alloc: Global,
+    table: &Table,
+    id: &Id,
+    declarations: &mut Declarations,
+) -> Result<(), AllocError> {
+    let Id::Named(name) = id else {
+        return Ok(());
+    };
+    match table.resolve(name.get()) {
+        Some(own) => {
+            let own = TextBuf::copied(alloc, own)?;
+            declarations.mention(&Id::Named(own))
+        }
+        None => Ok(()),
     }
 }
 

@@ -1,6 +1,6 @@
 //! A block of a delta file that is surveyed: its lines are gathered, and judged where it ends.
 
-ghost use Rattle.std.specs.Prelude.{◌≡◌, None, Some, if◌then◌else◌, nat_le, length, option_map, OnOk};
+ghost use Rattle.std.specs.Prelude.{◌≡◌, None, Some, IfSome, if◌then◌else◌, nat_le, length, option_map, OnOk};
 ghost use Rattle.std.specs.List.{list_any};
 ghost use Rattle.coll_requests.specs.Limits.{most_block_lines};
 ghost use Rattle.coll_surveys.specs.DeltaSurveys.{block_state, ended_block, ended_state, first_block, is_of_no_line};
@@ -104,7 +104,8 @@ impl OpenBlock {
 
     /// What it says, where its first line wasn't refused.
     pub fn end(self) -> Option<EndedBlock>
-        ensures { option_map ended_state result ≡ ended_block (block_state self) }
+        ensures ended { option_map ended_state result ≡ ended_block (block_state self) }
+        ensures spoiled { IfSome result (λ ended. ended.spoiled ≡ self.spoiled) }
     {
         let OpenBlock {
             begins,

@@ -1,6 +1,6 @@
 //! Where a line of a table stands for a survey: outside of an order, or within one.
 
-ghost use Rattle.std.specs.Prelude.{◌≡◌};
+ghost use Rattle.std.specs.Prelude.{◌≡◌, if◌then◌else◌};
 ghost use Rattle.coll_surveys.specs.TableSurveys.{standing_after, standing_behind_start, standing_in_order};
 ghost use Rattle.coll_surveys.specs.TableSurveys.{ends_opened as stated_end, is_in_order as stated_in_order};
 
@@ -40,13 +40,13 @@ impl Standing {
         }
     }
 
-    /// Where the line stands that is behind an `order_start` which the grammar refuses: an order that is open stays as it is.
-    pub fn behind_refused_start(self) -> Standing
-        ensures { result ≡ standing_behind_start self }
+    /// Where the line stands that is behind one which the grammar refuses. An `order_start` opens an order where none is open.
+    pub fn behind_refused(self, starts: bool) -> Standing
+        ensures { result ≡ (if starts then standing_behind_start self else self) }
     {
         match self {
-            Standing::Outside | Standing::Within => Standing::Within,
-            Standing::Opened => Standing::Opened,
+            Standing::Outside if starts => Standing::Within,
+            _ => self,
         }
     }
 }

@@ -10,18 +10,16 @@ ghost use Rattle.coll_lex.specs.Names.{AreTokens};
 ghost use Rattle.coll_nodes.specs.TableLayout.{collation};
 ghost use Rattle.coll_nodes.specs.WellFormed.{IsWellFormed};
 ghost use Rattle.coll_syntax.specs.Proper.{IsProperTableLine};
-ghost use Rattle.coll_syntax.specs.TableLines.{table_line};
 ghost use Rattle.coll_texts.specs.BuilderStates.{is_end, line_fault, table_of};
-ghost use Rattle.coll_texts.specs.LoadFaults.{early_fault, lex_cause};
 ghost use Rattle.coll_texts.specs.Loading.{state_with};
 ghost use Rattle.coll_texts.specs.declared.load_faults.LoadCause.TheVariants as cause;
 ghost use Rattle.coll_texts.specs.declared.load_faults.LoadCause.TheVariants.{OutOfMemory};
 ghost use Rattle.coll_findings.specs.SurveyedLines.{ended_early, first_lines};
 ghost use Rattle.coll_findings.specs.ToldFaults.{AreAmong, AreOnce, Tells, told_fault};
-ghost use Rattle.coll_surveys.specs.TableSurveys.{IsEnded, TellsLine, bare_line, begins_order, built_behind, closed_by, end_faults};
-ghost use Rattle.coll_surveys.specs.TableSurveys.{ended_by, ends_table, faults_of_line, given_table, judging, left_by_line, left_read};
+ghost use Rattle.coll_surveys.specs.TableSurveys.{IsEnded, TellsLine, bare_line, begins_order, built_behind, end_faults};
+ghost use Rattle.coll_surveys.specs.TableSurveys.{ended_by, ends_table, given_table, judging, left_by_line, left_read};
 ghost use Rattle.coll_surveys.specs.TableSurveys.{line_faults, lines_faults, lines_left, load_fault, load_faults, opened_by, opened_if};
-ghost use Rattle.coll_surveys.specs.TableSurveys.{outside_faults, ruled_behind, standing_after, standing_behind_start};
+ghost use Rattle.coll_surveys.specs.TableSurveys.{outside_faults, ruled_behind, standing_after};
 ghost use Rattle.coll_surveys.specs.TableSurveys.{starts_order as stated_start, survey_state, table_lines, told_of_table};
 ghost use Rattle.coll_surveys.specs.TableWeights.{table_faults, text_weights};
 
@@ -32,7 +30,7 @@ use coll_findings::{
     About, Collected, Declarations, DeclaredName, Opening, Surveyed, TakesLines, Warning,
     refused_subject, survey_lines, table_subject,
 };
-use coll_lex::{EarlyEnd, LexFault, Line};
+use coll_lex::{LexFault, Line};
 use coll_lookups::HashKeys;
 use coll_syntax::{OrderLine, SyntaxFault, TableLine, is_word, parse_table_line};
 use coll_table::Table;
@@ -153,17 +151,9 @@ impl TableSurvey {
     {
         let alloc = self.alloc;
         match survey_lines(alloc, text, self)? {
-            Some(end) => self.tell_end(end),
+            Some(end) => tell(LoadFault::from(end), About::Nothing, &mut self.told),
             None => Ok(()),
         }
-    }
-
-    // Tells how a text ends of which the category doesn't.
-    fn tell_end(&mut self, end: EarlyEnd) -> Result<(), AllocError>
-        ensures told { OnOk result (Tells (told_of_table self.old) (told_of_table self.new) (load_fault (early_fault end) ∷ [])) }
-        ensures left { survey_state self.new ≡ survey_state self.old }
-    {
-        self.tell_load(LoadFault::from(end), About::Nothing)
     }
 
     // The builder, and what was read beside it.
@@ -191,41 +181,6 @@ impl TableSurvey {
         )
     }
 
-    // Tells a fault of the table.
-    fn tell_load(&mut self, fault: LoadFault, about: About) -> Result<(), AllocError>
-        ensures told { OnOk result (Tells (told_of_table self.old) (told_of_table self.new) (load_fault fault ∷ [])) }
-        ensures builder { self.new.builder ≡ self.old.builder }
-        ensures standing { self.new.standing ≡ self.old.standing }
-        ensures ruled { self.new.ruled ≡ self.old.ruled }
-    {
-        self.told
-            .tell(fault.line, fault.line, Fault::Load(fault), about)
-    }
-
-    // Takes a line, and answers whether it ends the category. What is told of it is what judging it gives where it stands, but for its
-    // weights.
-    fn take_line(&mut self, line: &Line) -> Result<bool, AllocError>
-        requires { AreTokens line.now.tokens }
-        ensures told { OnOk result (Tells (told_of_table self.old) (told_of_table self.new)
-            (faults_of_line self.old.builder self.old.standing line.now.number line.now.tokens)) }
-        ensures left { OnOk result (survey_state self.new ≡ left_read (survey_state self.old) line.now.number (begins_order line.now.tokens)
-            (table_line line.now.tokens)) }
-        ensures ended { IfOk result (λ ended. ended ≡ ends_table line.now.tokens) }
-    {
-        match parse_table_line(self.alloc, line) {
-            Ok(read) => {
-                let ends = ends_category(&read);
-                self.put(line, read)?;
-                Ok(ends)
-            }
-            Err(SyntaxFault::OutOfMemory) => Err(AllocError),
-            Err(fault) => {
-                self.refuse_line(line, fault)?;
-                Ok(false)
-            }
-        }
-    }
-
     // Tells a line that the grammar refuses. One that would open an order opens one.
     fn refuse_line(&mut self, line: &Line, fault: SyntaxFault) -> Result<(), AllocError>
         ensures told { OnOk result (Tells (told_of_table self.old) (told_of_table self.new)
@@ -234,40 +189,14 @@ impl TableSurvey {
             ≡ left_read (survey_state self.old) line.now.number (begins_order line.now.tokens) (Err fault)) }
     {
         let about = refused_subject(self.alloc, line, fault)?;
-        self.pass_over(begins_with_order_start(line))?;
+        let begins = begins_with_order_start(line);
+        self.standing = self.standing.behind_refused(begins);
+        open_if(begins, &mut self.builder)?;
         let fault = LoadFault {
             line: line.number,
             cause: LoadCause::Syntax(fault),
         };
-        self.tell_load(fault, about)
-    }
-
-    // Takes a line at fault by what it begins with: an `order_start` opens an order.
-    fn pass_over(&mut self, begins: bool) -> Result<(), AllocError>
-        ensures told { self.new.told ≡ self.old.told }
-        ensures standing { OnOk result (self.new.standing ≡ (if begins then standing_behind_start self.old.standing else self.old.standing)) }
-        ensures left { OnOk result (self.new.builder ≡ opened_if begins self.old.builder) }
-        ensures ruled { self.new.ruled ≡ self.old.ruled }
-    {
-        if begins {
-            self.standing = self.standing.behind_refused_start();
-        }
-        self.open_if(begins)
-    }
-
-    // Tells a line that the lexer refuses.
-    fn refuse_lexed(&mut self, number: u32, fault: LexFault) -> Result<(), AllocError>
-        ensures told { OnOk result (Tells (told_of_table self.old) (told_of_table self.new)
-            (load_fault (record { line = number; cause = lex_cause fault }) ∷ [])) }
-        ensures standing { self.new.standing ≡ self.old.standing }
-        ensures ruled { self.new.ruled ≡ self.old.ruled }
-        ensures left { self.new.builder ≡ self.old.builder }
-    {
-        let fault = LoadFault {
-            line: number,
-            cause: LoadCause::from(fault),
-        };
-        self.tell_load(fault, About::Nothing)
+        tell(fault, about, &mut self.told)
     }
 
     // Puts a line that the grammar accepts to the builder.
@@ -309,7 +238,7 @@ impl TableSurvey {
         match self.builder.take(line.number, bare) {
             Ok(_) => {
                 self.ruled = self.ruled || starts;
-                self.note(line.number, name)
+                note(line.number, name, &mut self.declarations)
             }
             Err(fault) => {
                 drop(name);
@@ -329,60 +258,18 @@ impl TableSurvey {
         if let TableLine::Script = read {
             self.told.warn(Warning::ScriptWithoutEffect, number, None)?;
         }
-        self.make_way(number, read)?;
+        make_way(
+            self.standing,
+            number,
+            read,
+            &mut self.builder,
+            &mut self.told,
+        )?;
         self.standing = self.standing.behind(read);
         declared_name(read)
     }
 
-    // Tells a line that stands outside of an order and is to stand in one, and opens one for it, so that those behind it aren't refused
-    // for want of one. An order like that is closed again before the text opens one, or ends, so that this isn't refused for it.
-    fn make_way(&mut self, number: u32, read: &TableLine) -> Result<(), AllocError>
-        ensures told { OnOk result (Tells (told_of_table self.old) (told_of_table self.new)
-            (outside_faults self.old.standing number read.now)) }
-        ensures judging { OnOk result (self.new.builder ≡ judging self.old.builder self.old.standing read.now) }
-        ensures standing { self.new.standing ≡ self.old.standing }
-        ensures ruled { self.new.ruled ≡ self.old.ruled }
-    {
-        match self.standing {
-            Standing::Outside if is_in_order(read) => {
-                self.tell_outside(number, read)?;
-                self.open()
-            }
-            Standing::Opened if ends_opened(read) => self.close(),
-            _ => Ok(()),
-        }
-    }
-
-    // Tells a line that stands outside of an order.
-    fn tell_outside(&mut self, number: u32, read: &TableLine) -> Result<(), AllocError>
-        ensures told { OnOk result (Tells (told_of_table self.old) (told_of_table self.new)
-            (load_fault (record { line = number; cause = cause.OutsideOrder }) ∷ [])) }
-        ensures builder { self.new.builder ≡ self.old.builder }
-        ensures standing { self.new.standing ≡ self.old.standing }
-        ensures ruled { self.new.ruled ≡ self.old.ruled }
-    {
-        let fault = LoadFault {
-            line: number,
-            cause: LoadCause::OutsideOrder,
-        };
-        let about = table_subject(read, fault.cause)?;
-        self.tell_load(fault, about)
-    }
-
-    // Notes what a line declares, if it declares a name.
-    fn note(&mut self, number: u32, name: Option<DeclaredName>) -> Result<(), AllocError>
-        ensures told { self.new.told ≡ self.old.told }
-        ensures builder { self.new.builder ≡ self.old.builder }
-        ensures standing { self.new.standing ≡ self.old.standing }
-        ensures ruled { self.new.ruled ≡ self.old.ruled }
-    {
-        match name {
-            Some(name) => self.declarations.declare(number, name),
-            None => Ok(()),
-        }
-    }
-
-    // Tells a line that the builder refuses, which may be one that would open an order. It is read once more for what it is about.
+    // Tells a line that the builder refuses. One that would open an order opens one.
     fn refuse_read(&mut self, line: &Line, starts: bool, fault: LoadFault) -> Result<(), AllocError>
         requires { AreTokens line.now.tokens }
         ensures memory { OnOk result (fault.cause ≢ OutOfMemory) }
@@ -394,79 +281,9 @@ impl TableSurvey {
         if let LoadCause::OutOfMemory = fault.cause {
             return Err(AllocError);
         }
-        match parse_table_line(self.alloc, line) {
-            Ok(read) => {
-                let told = self.tell_refused(fault, starts, &read);
-                drop(read);
-                told
-            }
-            Err(_) => Err(AllocError),
-        }
-    }
-
-    // Tells a line that the builder refuses. One that would open an order opens one.
-    fn tell_refused(
-        &mut self,
-        fault: LoadFault,
-        starts: bool,
-        read: &TableLine,
-    ) -> Result<(), AllocError>
-        ensures told { OnOk result (Tells (told_of_table self.old) (told_of_table self.new) (load_fault fault ∷ [])) }
-        ensures standing { self.new.standing ≡ self.old.standing }
-        ensures ruled { self.new.ruled ≡ self.old.ruled }
-        ensures left { OnOk result (self.new.builder ≡ opened_if starts self.old.builder) }
-    {
-        let about = table_subject(read, fault.cause)?;
-        self.open_if(starts)?;
-        self.tell_load(fault, about)
-    }
-
-    // Opens an order, if one is to be opened.
-    fn open_if(&mut self, opens: bool) -> Result<(), AllocError>
-        ensures told { self.new.told ≡ self.old.told }
-        ensures opened { OnOk result (self.new.builder ≡ opened_if opens self.old.builder) }
-        ensures standing { self.new.standing ≡ self.old.standing }
-        ensures ruled { self.new.ruled ≡ self.old.ruled }
-    {
-        if !opens {
-            return Ok(());
-        }
-        self.open()
-    }
-
-    // Opens an order, with the rules that stand, or else one level.
-    fn open(&mut self) -> Result<(), AllocError>
-        ensures told { self.new.told ≡ self.old.told }
-        ensures opened { OnOk result (self.new.builder ≡ opened_by self.old.builder) }
-        ensures standing { self.new.standing ≡ self.old.standing }
-        ensures ruled { self.new.ruled ≡ self.old.ruled }
-    {
-        let start = TableLine::OrderStart {
-            section: None,
-            rules: None,
-        };
-        self.put_own(start)
-    }
-
-    // Closes an order that was opened here.
-    fn close(&mut self) -> Result<(), AllocError>
-        ensures told { self.new.told ≡ self.old.told }
-        ensures closed { OnOk result (self.new.builder ≡ closed_by self.old.builder) }
-        ensures standing { self.new.standing ≡ self.old.standing }
-        ensures ruled { self.new.ruled ≡ self.old.ruled }
-    {
-        self.put_own(TableLine::OrderEnd)
-    }
-
-    // Puts a line to the builder that is none of the text, and that it can't refuse.
-    fn put_own(&mut self, line: TableLine) -> Result<(), AllocError>
-        requires { IsProperTableLine line }
-        ensures told { self.new.told ≡ self.old.told }
-        ensures taken { OnOk result (self.new.builder ≡ state_with self.old.builder 0 line) }
-        ensures standing { self.new.standing ≡ self.old.standing }
-        ensures ruled { self.new.ruled ≡ self.old.ruled }
-    {
-        take_own(&mut self.builder, line)
+        let about = subject_again(self.alloc, line, fault.cause)?;
+        open_if(starts, &mut self.builder)?;
+        tell(fault, about, &mut self.told)
     }
 }
 
@@ -475,8 +292,20 @@ impl TakesLines for TableSurvey {
 
     ghost ends = { ends_table };
 
+    // What is told of a line is what judging it gives where it stands, but for its weights.
     fn take(&mut self, line: &Line, _opening: Opening) -> Result<bool, AllocError> {
-        self.take_line(line)
+        match parse_table_line(self.alloc, line) {
+            Ok(read) => {
+                let ends = ends_category(&read);
+                self.put(line, read)?;
+                Ok(ends)
+            }
+            Err(SyntaxFault::OutOfMemory) => Err(AllocError),
+            Err(fault) => {
+                self.refuse_line(line, fault)?;
+                Ok(false)
+            }
+        }
     }
 
     fn refuse(
@@ -485,7 +314,71 @@ impl TakesLines for TableSurvey {
         _opening: Opening,
         fault: LexFault,
     ) -> Result<(), AllocError> {
-        self.refuse_lexed(number, fault)
+        let fault = LoadFault {
+            line: number,
+            cause: LoadCause::from(fault),
+        };
+        tell(fault, About::Nothing, &mut self.told)
+    }
+}
+
+// Tells a fault of the table.
+fn tell(fault: LoadFault, about: About, told: &mut Collected) -> Result<(), AllocError>
+    ensures { OnOk result (Tells told.old.told.faults.items told.new.told.faults.items (load_fault fault ∷ [])) }
+{
+    told.tell(fault.line, fault.line, Fault::Load(fault), about)
+}
+
+// Tells a line that stands outside of an order and is to stand in one, and opens one for it, so that those behind it aren't refused for
+// want of one. An order like that is closed again before the text opens one, or ends, so that this isn't refused for it.
+fn make_way(
+    standing: Standing,
+    number: u32,
+    read: &TableLine,
+    builder: &mut TableBuilder,
+    told: &mut Collected,
+) -> Result<(), AllocError>
+    ensures told { OnOk result (Tells told.old.told.faults.items told.new.told.faults.items (outside_faults standing number read.now)) }
+    ensures judging { OnOk result (builder.new ≡ judging builder.old standing read.now) }
+{
+    match standing {
+        Standing::Outside if is_in_order(read) => {
+            let fault = LoadFault {
+                line: number,
+                cause: LoadCause::OutsideOrder,
+            };
+            let about = table_subject(read, fault.cause)?;
+            tell(fault, about, told)?;
+            open(builder)
+        }
+        Standing::Opened if ends_opened(read) => take_own(builder, TableLine::OrderEnd),
+        _ => Ok(()),
+    }
+}
+
+// Notes the name that a line declares, if it declares one.
+fn note(
+    number: u32,
+    name: Option<DeclaredName>,
+    declarations: &mut Declarations,
+) -> Result<(), AllocError> {
+    match name {
+        Some(name) => declarations.declare(number, name),
+        None => Ok(()),
+    }
+}
+
+// What a line is about that the builder refuses for a cause. It is read once more for that.
+fn subject_again(alloc: Global, line: &Line, cause: LoadCause) -> Result<About, AllocError>
+    requires { AreTokens line.now.tokens }
+{
+    match parse_table_line(alloc, line) {
+        Ok(read) => {
+            let about = table_subject(&read, cause);
+            drop(read);
+            about
+        }
+        Err(_) => Err(AllocError),
     }
 }
 
@@ -562,11 +455,7 @@ fn end_builder(builder: &mut TableBuilder) -> Result<bool, AllocError>
     if end_category(builder)? {
         return Ok(true);
     }
-    let start = TableLine::OrderStart {
-        section: None,
-        rules: None,
-    };
-    take_own(builder, start)?;
+    open(builder)?;
     take_own(builder, TableLine::OrderEnd)?;
     end_category(builder)
 }
@@ -586,6 +475,27 @@ fn end_category(builder: &mut TableBuilder) -> Result<bool, AllocError>
         ) => Err(AllocError),
         Err(_) => Ok(false),
     }
+}
+
+// Opens an order, if one is to be opened.
+fn open_if(opens: bool, builder: &mut TableBuilder) -> Result<(), AllocError>
+    ensures { OnOk result (builder.new ≡ opened_if opens builder.old) }
+{
+    if !opens {
+        return Ok(());
+    }
+    open(builder)
+}
+
+// Opens an order, with the rules that stand, or else one level.
+fn open(builder: &mut TableBuilder) -> Result<(), AllocError>
+    ensures { OnOk result (builder.new ≡ opened_by builder.old) }
+{
+    let start = TableLine::OrderStart {
+        section: None,
+        rules: None,
+    };
+    take_own(builder, start)
 }
 
 // Puts a line to a builder that is none of the text, and that it can't refuse.

@@ -71,12 +71,7 @@ impl TakesLines for WeightSurvey<'_, '_> {
     }
 
     // What the lexer refuses was told before.
-    fn refuse(
-        &mut self,
-        _number: u32,
-        _opening: Opening,
-        _fault: LexFault,
-    ) -> Result<(), AllocError> {
+    fn refuse(&mut self, _: u32, _: Opening, _: LexFault) -> Result<(), AllocError> {
         Ok(())
     }
 }

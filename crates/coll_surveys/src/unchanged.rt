@@ -1,6 +1,7 @@
 //! Whether a statement that a table took left the table as it was.
 //!
-//! This is read from the record of the statement: each of its items stands where it stood, with the weights that it had.
+//! This is read from the record of the statement: each of its items stands where it stood, with the weights that it had. Two lists are
+//! gone along by an iterator of the second, and not by `zip`, whose proofs the crate would load for these loops alone.
 
 use coll_syntax::{Id, OrderLine, Statement, Weight};
 use coll_table::{Item, Record, Table};
@@ -21,9 +22,12 @@ pub(crate) fn changed_nothing(table: &Table, statement: &Statement, record: &Rec
 
 // Whether each line left its entry where it stood, with the weights that it had.
 fn kept_lines(table: &Table, lines: &[OrderLine], items: &[Item]) -> bool {
-    for (line, item) in lines.iter().zip(items.iter()) {
-        if !stays(item) || !keeps_weights(table, &line.id, item) {
-            return false;
+    let mut left = items.iter();
+    for line in lines {
+        match left.next() {
+            Some(item) if stays(item) && keeps_weights(table, &line.id, item) => {}
+            Some(_) => return false,
+            None => return true,
         }
     }
     true
@@ -53,22 +57,21 @@ fn are_same(weights: &[Weight], others: &[Weight]) -> bool {
     if weights.len() != others.len() {
         return false;
     }
-    for (weight, other) in weights.iter().zip(others.iter()) {
-        if !is_same(weight, other) {
+    let mut left = others.iter();
+    for weight in weights {
+        let is_same = match (weight, left.next()) {
+            (Weight::Ignore, Some(Weight::Ignore)) => true,
+            (Weight::Own, Some(Weight::Own)) => true,
+            (Weight::Names(ids), Some(Weight::Names(others))) => {
+                are_same_ids(ids.get(), others.get())
+            }
+            _ => false,
+        };
+        if !is_same {
             return false;
         }
     }
     true
-}
-
-// Whether two weights are the same.
-fn is_same(weight: &Weight, other: &Weight) -> bool {
-    match (weight, other) {
-        (Weight::Ignore, Weight::Ignore) => true,
-        (Weight::Own, Weight::Own) => true,
-        (Weight::Names(ids), Weight::Names(others)) => are_same_ids(ids.get(), others.get()),
-        _ => false,
-    }
 }
 
 // Whether two lists of identifiers are the same.
@@ -76,9 +79,11 @@ fn are_same_ids(ids: &[Id], others: &[Id]) -> bool {
     if ids.len() != others.len() {
         return false;
     }
-    for (id, other) in ids.iter().zip(others.iter()) {
-        if !id.is_same(other) {
-            return false;
+    let mut left = others.iter();
+    for id in ids {
+        match left.next() {
+            Some(other) if id.is_same(other) => {}
+            _ => return false,
         }
     }
     true

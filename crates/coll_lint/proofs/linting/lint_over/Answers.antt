@@ -7,8 +7,8 @@ use Rattle.coll_lint.proofs.linting.lint_over.Goals as goal
 pub returns-in-Ok : goal.returns-in-Ok
 returns-in-Ok c =
     let texts = c.args.delta.now ∷ [] in
-    accepted c.args.table.now texts c.lint_accepted_delta.result c.in-Ok.ensures.0 (behind_table c.args.table.now (collation c.args.read) texts c.requires ∙ c.in-Ok.ensures.1)
-    c.lint_accepted_delta.ensures.none c.lint_accepted_delta.ensures.memory
+    accepted c.args.table.now texts c.lint_if_accepted.result c.in-Ok.ensures.0 (behind_table c.args.table.now (collation c.args.read) texts c.requires ∙ c.in-Ok.ensures.1)
+    c.lint_if_accepted.ensures.none c.lint_if_accepted.ensures.memory
 
 pub returns-in-Err : goal.returns-in-Err
 returns-in-Err c =

@@ -9,15 +9,15 @@ lines-init g c = λ passes passed. underway g.T.TakesLines.takes g.T.TakesLines.
 
 pub returns-then-branch : goal.returns-then-branch
 returns-then-branch g c = λ passes passed.
-    underway_last g.T.TakesLines.takes g.T.TakesLines.ends (lines_state c.args.self.now) (lines_of c.args.text.now) c.lines.self c.hand_on_unless_passed.new.self c.in-Some.line.now
-    (lines_of c.lines.left.now) (lines_of c.in-Some.behind.now) c.args.taker.now c.lines.taker c.hand_on_unless_passed.new.taker c.in_ok-hand_on_unless_passed.field-0 (c.lines.invariant passes passed)
-    c.in-Some.ensures.lines c.in_ok-hand_on_unless_passed.ensures c.if-branch.true
+    underway_last g.T.TakesLines.takes g.T.TakesLines.ends (lines_state c.args.self.now) (lines_of c.args.text.now) c.lines.self c.hand_on.new.self c.in-Some.line.now
+    (lines_of c.lines.left.now) (lines_of c.in-Some.behind.now) c.args.taker.now c.lines.taker c.hand_on.new.taker c.in_ok-hand_on.field-0 (c.lines.invariant passes passed)
+    c.in-Some.ensures.lines c.in_ok-hand_on.ensures c.if-branch.true
 
 pub lines-preserved : goal.lines-preserved
 lines-preserved g c = λ passes passed.
-    underway_more g.T.TakesLines.takes g.T.TakesLines.ends (lines_state c.args.self.now) (lines_of c.args.text.now) c.lines.self c.hand_on_unless_passed.new.self c.in-Some.line.now
-    (lines_of c.lines.left.now) (lines_of c.in-Some.behind.now) c.args.taker.now c.lines.taker c.hand_on_unless_passed.new.taker c.in_ok-hand_on_unless_passed.field-0 (c.lines.invariant passes passed)
-    c.in-Some.ensures.lines c.in_ok-hand_on_unless_passed.ensures c.if-branch.false
+    underway_more g.T.TakesLines.takes g.T.TakesLines.ends (lines_state c.args.self.now) (lines_of c.args.text.now) c.lines.self c.hand_on.new.self c.in-Some.line.now
+    (lines_of c.lines.left.now) (lines_of c.in-Some.behind.now) c.args.taker.now c.lines.taker c.hand_on.new.taker c.in_ok-hand_on.field-0 (c.lines.invariant passes passed)
+    c.in-Some.ensures.lines c.in_ok-hand_on.ensures c.if-branch.false
 
 pub returns : goal.returns
 returns g c = λ passes passed.

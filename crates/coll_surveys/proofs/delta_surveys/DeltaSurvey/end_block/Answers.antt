@@ -8,11 +8,11 @@ use Rattle.coll_surveys.proofs.delta_surveys.DeltaSurvey.end_block.Goals as goal
 pub returns-in-Some-clause-told : goal.returns-in-Some-clause-told
 returns-in-Some-clause-told c =
     ended_told (faults_told c.args.self.now) (faults_told c.judge_ended.new.self) (table_left c.args.self.now) c.args.self.now.block c.in-Some.block (option_map ended_state c.end.result)
-    c.judge_ended.result (sym c.take.ensures.value ∙ c.in-Some.is) c.end.ensures c.judge_ended.ensures.told
+    c.judge_ended.result (sym c.take.ensures.value ∙ c.in-Some.is) c.end.ensures.ended c.judge_ended.ensures.told
 
 pub returns-in-Some-clause-left : goal.returns-in-Some-clause-left
 returns-in-Some-clause-left c =
-    ended_leaves c.args.self.now c.judge_ended.new.self c.in-Some.block (option_map ended_state c.end.result) c.judge_ended.result (sym c.take.ensures.value ∙ c.in-Some.is) c.end.ensures
+    ended_leaves c.args.self.now c.judge_ended.new.self c.in-Some.block (option_map ended_state c.end.result) c.judge_ended.result (sym c.take.ensures.value ∙ c.in-Some.is) c.end.ensures.ended
     c.judge_ended.ensures.left (c.judge_ended.ensures.block ∙ c.take.ensures.after)
 
 pub returns-in-None-clause-left : goal.returns-in-None-clause-left

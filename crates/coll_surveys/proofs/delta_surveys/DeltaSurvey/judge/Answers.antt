@@ -1,6 +1,5 @@
 -- A statement with faults is refused.
-use Rattle.std.proofs.Common.{ap, arith, vec_len, ◌∙◌}
-use Rattle.coll_nodes.specs.TableLayout.{collation}
+use Rattle.std.proofs.Common.{arith, vec_len}
 use Rattle.coll_surveys.specs.DeltaSurveys.{table_left}
 use Rattle.coll_surveys.proofs.MendingLemmas.{refused_behind}
 use Rattle.coll_surveys.proofs.delta_surveys.DeltaSurvey.judge.Goals as goal
@@ -8,5 +7,4 @@ use Rattle.coll_surveys.proofs.delta_surveys.DeltaSurvey.judge.Goals as goal
 pub returns-clause-left : goal.returns-clause-left
 returns-clause-left c =
     let found = c.in_ok-found.found in
-    ap collation c.tell_found-told.ensures.table
-    ∙ refused_behind (table_left c.args.self.now) c.args.statement.now found.items (vec_len found) (omega (arith, found.ok.0)) (cc) c.in_ok-found.ensures.accepted
+    refused_behind (table_left c.args.self.now) c.args.statement.now found.items (vec_len found) (omega (arith, found.ok.0)) (cc) c.in_ok-found.ensures.accepted
