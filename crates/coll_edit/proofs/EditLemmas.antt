@@ -109,11 +109,6 @@ pub on_ok : {P : Type 0} (r : Result Next RunFault) → P → OnOk r P
 on_ok (Ok next) p = p
 on_ok (Err ended) p = tt
 
--- where a line of `edit` was answered, the end may be asked for
-pub ends_answered : (b : Bool) (r : Result Next RunFault) → b ≡ true → IfOk r (λ (next : Next). next ≡ after.End → b ≡ true)
-ends_answered b (Ok next) is = λ e. is
-ends_answered b (Err ended) is = tt
-
 -- what is told behind a line leaves the session, and whether a line of `edit` was answered
 pub edits_told : (old mid new : Editor) (line : List ℕ) (taken taken_after : Option (List ℕ)) (r : Result Next RunFault) → run_of new ≡ run_of mid → has_answered new ≡ has_answered mid
     → EditsLine old mid line taken taken_after r → EditsLine old new line taken taken_after r

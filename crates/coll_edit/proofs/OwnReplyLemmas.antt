@@ -1,8 +1,7 @@
--- What is written for `:explain`, and an answer that is handed on.
+-- What is written for `:explain`, and for `:help` and a number.
 use Rattle.std.proofs.Common.{◌≡◌, ◌≢◌, List, ℕ, Option, Result, Ok, Err, refl, sym, ap, ◌∙◌, subst, inl, inr}
 use Rattle.std.specs.Prelude.{encode_utf8_all}
 use Rattle.std.specs.Io.KnownBytes.{Keeps}
-use Rattle.std.specs.declared.num.ParseIntError.{ParseIntError}
 use Rattle.coll_devices.specs.Devices.{Sends}
 use Rattle.coll_devices.specs.declared.stops.WriteStop.{WriteStop}
 use Rattle.coll_devices.specs.declared.stops.WriteStop.TheVariants as write
@@ -15,10 +14,9 @@ use Rattle.coll_faults.specs.declared.faults.RunFault.{RunFault}
 use Rattle.coll_bench.proofs.ReplyLemmas.{flushed}
 use Rattle.coll_explanations.specs.Explaining.{Explains, starved}
 use Rattle.coll_explanations.specs.Explanations.{explanation}
-use Rattle.coll_edit_replies.specs.Help.{SendsHelp, SendsReadHelp}
+use Rattle.coll_edit_replies.specs.Help.{SendsHelp}
 use Rattle.coll_edit.specs.OwnReplies.{SendsAnswer, SendsExplained}
 use Rattle.coll_edit_replies.specs.Showing.{refusal_told}
-use Rattle.coll_edit.specs.declared.editors.Next.{Next}
 use Rattle.coll_edit.specs.declared.own_lines.OwnLine.{OwnLine}
 use Rattle.coll_edit.specs.declared.own_lines.OwnLine.TheVariants as own
 
@@ -67,45 +65,6 @@ pub explained_same : (table : Collation) (t text o other_text : List ℕ) (old n
     → SendsExplained table t o old new r → SendsExplained table text other_text old new r
 explained_same table t text o other_text old new r is other_is sent =
     subst (λ (x : List ℕ). SendsExplained table x other_text old new r) is (subst (λ (x : List ℕ). SendsExplained table t x old new r) other_is sent)
-
--- An answer is handed on.
-
-help_done : (old new : Option (List ℕ)) (read : Result ℕ ParseIntError) (next : Next) → SendsReadHelp {T = Unit {0}} {E = WriteStop} old new read (Ok tt) → SendsReadHelp {T = Next} {E = RunFault} old new read (Ok next)
-help_done old new (Ok number) next sent = sent
-help_done old new (Err error) next sent = sent
-
-help_failed : (old new : Option (List ℕ)) (read : Result ℕ ParseIntError) (stop : WriteStop) (ended : RunFault) → SendsReadHelp {T = Unit {0}} {E = WriteStop} old new read (Err stop)
-    → SendsReadHelp {T = Next} {E = RunFault} old new read (Err ended)
-help_failed old new (Ok number) stop ended sent = sent
-help_failed old new (Err error) stop ended sent = sent
-
-pub answer_done : (h : History) (o : OwnLine) (old new : Option (List ℕ)) (next : Next) → SendsAnswer {T = Unit {0}} {E = WriteStop} h o old new (Ok tt)
-    → SendsAnswer {T = Next} {E = RunFault} h o old new (Ok next)
-answer_done h (own.Show id) old new next sent = sent
-answer_done h (own.Explain text other_text) old new next sent = sent
-answer_done h own.Delta old new next sent = sent
-answer_done h (own.HelpNumber number) old new next (read, parses, sent) = (read, parses, help_done old new read next sent)
-answer_done h (own.Wrong wrong) old new next sent = sent
-answer_done h own.Help old new next sent = tt
-answer_done h (own.Key text) old new next sent = tt
-answer_done h (own.Compare text other_text) old new next sent = tt
-answer_done h (own.Write name) old new next sent = tt
-answer_done h (own.Words name) old new next sent = tt
-answer_done h own.Quit old new next sent = tt
-
-pub answer_failed : (h : History) (o : OwnLine) (old new : Option (List ℕ)) (stop : WriteStop) (ended : RunFault) → SendsAnswer {T = Unit {0}} {E = WriteStop} h o old new (Err stop)
-    → SendsAnswer {T = Next} {E = RunFault} h o old new (Err ended)
-answer_failed h (own.Show id) old new stop ended sent = sent
-answer_failed h (own.Explain text other_text) old new stop ended sent = sent
-answer_failed h own.Delta old new stop ended sent = sent
-answer_failed h (own.HelpNumber number) old new stop ended (read, parses, sent) = (read, parses, help_failed old new read stop ended sent)
-answer_failed h (own.Wrong wrong) old new stop ended sent = sent
-answer_failed h own.Help old new stop ended sent = tt
-answer_failed h (own.Key text) old new stop ended sent = tt
-answer_failed h (own.Compare text other_text) old new stop ended sent = tt
-answer_failed h (own.Write name) old new stop ended sent = tt
-answer_failed h (own.Words name) old new stop ended sent = tt
-answer_failed h own.Quit old new stop ended sent = tt
 
 -- a number is asked for by these bytes
 pub answer_help : (h : History) (o : OwnLine) (number bytes : List ℕ) (old new : Option (List ℕ)) (r : Result (Unit {0}) WriteStop) → o ≡ own.HelpNumber number → encode_utf8_all number ≡ bytes

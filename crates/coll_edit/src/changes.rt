@@ -63,20 +63,33 @@ pub(crate) fn told_of(alloc: Global, statement: &Statement) -> Option<Told> {
     }
 }
 
-/// Tells that a statement was taken back.
-pub(crate) fn tell_back<M: Sink>(messages: &mut M, told: &Told) {
-    tell(messages, b"note: taken back: ", told);
-}
+/// The words that tell of a statement that was taken back.
+pub(crate) const TAKEN_BACK: &[u8] = b"note: taken back: ";
 
-/// Tells that a statement was put again.
-pub(crate) fn tell_again<M: Sink>(messages: &mut M, told: &Told) {
-    tell(messages, b"note: put again: ", told);
-}
+/// The words that tell of one that was put again.
+pub(crate) const PUT_AGAIN: &[u8] = b"note: put again: ";
 
-// Tells a statement behind these words.
-fn tell<'a, M: Sink>(messages: &mut M, words: &'a [u8], told: &'a Told) {
+/// Tells a statement behind these words.
+pub(crate) fn tell_statement<'a, M: Sink>(messages: &mut M, words: &'a [u8], told: &'a Told) {
     match told {
-        Told::Block(target, count) => tell_block(messages, words, target, *count),
+        Told::Block(target, count) => {
+            let lines: &[u8] = if *count == 1 {
+                b" line)\n"
+            } else {
+                b" lines)\n"
+            };
+            let _ = write_pieces(
+                messages,
+                &[
+                    Piece::Bytes(words),
+                    Piece::Bytes(b"reorder-after "),
+                    Piece::Id(target),
+                    Piece::Bytes(b" .. ("),
+                    Piece::Number(*count as u64),
+                    Piece::Bytes(lines),
+                ],
+            );
+        }
         Told::Line(statement) => {
             if write_pieces(messages, &[Piece::Bytes(words)]).is_ok() {
                 let _ = write_statement(messages, statement);
@@ -84,24 +97,4 @@ fn tell<'a, M: Sink>(messages: &mut M, words: &'a [u8], told: &'a Told) {
         }
     }
     let _ = messages.flush();
-}
-
-// Tells a block behind these words.
-fn tell_block<'a, M: Sink>(messages: &mut M, words: &'a [u8], target: &'a Id, count: usize) {
-    let lines: &[u8] = if count == 1 {
-        b" line)\n"
-    } else {
-        b" lines)\n"
-    };
-    let _ = write_pieces(
-        messages,
-        &[
-            Piece::Bytes(words),
-            Piece::Bytes(b"reorder-after "),
-            Piece::Id(target),
-            Piece::Bytes(b" .. ("),
-            Piece::Number(count as u64),
-            Piece::Bytes(lines),
-        ],
-    );
 }

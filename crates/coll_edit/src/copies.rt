@@ -5,7 +5,7 @@
 ghost use Rattle.std.specs.Prelude.{◌≡◌, IfOk, OnOk, ◌++◌, ◌∷◌, []};
 
 use coll_lex::{ListBuf, TextBuf};
-use coll_syntax::{Id, OrderLine, Statement, Weight};
+use coll_syntax::{OrderLine, Statement};
 use std::alloc::{AllocError, Global};
 
 /// A copy of a statement, in new memory.
@@ -17,52 +17,34 @@ pub(crate) fn copied_statement(
 {
     match statement {
         Statement::Symbol(name) => Ok(Statement::Symbol(name.try_copy()?)),
-        Statement::Element { name, text } => copied_element(name, text),
-        Statement::Equivalence { name, symbol } => copied_equivalence(name, symbol),
-        Statement::Block { target, lines } => copied_block(alloc, target, lines),
-        Statement::SectionAfter { moved, after } => copied_section(moved, after),
+        Statement::Element { name, text } => {
+            let (name, text) = copied_both(name, text)?;
+            Ok(Statement::Element { name, text })
+        }
+        Statement::Equivalence { name, symbol } => {
+            let (name, symbol) = copied_both(name, symbol)?;
+            Ok(Statement::Equivalence { name, symbol })
+        }
+        Statement::Block { target, lines } => {
+            let target = target.clone()?;
+            let lines = ListBuf::new(copied_lines(alloc, lines.get())?);
+            Ok(Statement::Block { target, lines })
+        }
+        Statement::SectionAfter { moved, after } => {
+            let (moved, after) = copied_both(moved, after)?;
+            Ok(Statement::SectionAfter { moved, after })
+        }
         Statement::Reweight(line) => Ok(Statement::Reweight(copied_line(line)?)),
     }
 }
 
-// A copy of the declaration of an element.
-fn copied_element(name: &TextBuf, text: &TextBuf) -> Result<Statement, AllocError>
-    ensures { IfOk result (λ copy. copy ≡ Statement.Element name.now text.now) }
+// Copies of two texts.
+fn copied_both(first: &TextBuf, second: &TextBuf) -> Result<(TextBuf, TextBuf), AllocError>
+    ensures { IfOk result (λ copies. copies ≡ (first.now, second.now)) }
 {
-    let name = name.try_copy()?;
-    let text = text.try_copy()?;
-    Ok(Statement::Element { name, text })
-}
-
-// A copy of the declaration of a second name.
-fn copied_equivalence(name: &TextBuf, symbol: &TextBuf) -> Result<Statement, AllocError>
-    ensures { IfOk result (λ copy. copy ≡ Statement.Equivalence name.now symbol.now) }
-{
-    let name = name.try_copy()?;
-    let symbol = symbol.try_copy()?;
-    Ok(Statement::Equivalence { name, symbol })
-}
-
-// A copy of the move of a section.
-fn copied_section(moved: &TextBuf, after: &TextBuf) -> Result<Statement, AllocError>
-    ensures { IfOk result (λ copy. copy ≡ Statement.SectionAfter moved.now after.now) }
-{
-    let moved = moved.try_copy()?;
-    let after = after.try_copy()?;
-    Ok(Statement::SectionAfter { moved, after })
-}
-
-// A copy of a block.
-fn copied_block(
-    alloc: Global,
-    target: &Id,
-    lines: &ListBuf<OrderLine>,
-) -> Result<Statement, AllocError>
-    ensures { IfOk result (λ copy. copy ≡ Statement.Block target.now lines.now) }
-{
-    let target = target.clone()?;
-    let lines = ListBuf::new(copied_lines(alloc, lines.get())?);
-    Ok(Statement::Block { target, lines })
+    let first = first.try_copy()?;
+    let second = second.try_copy()?;
+    Ok((first, second))
 }
 
 // Copies of order lines.
@@ -90,19 +72,6 @@ fn copied_line(line: &OrderLine) -> Result<OrderLine, AllocError>
     ensures { IfOk result (λ copy. copy ≡ line.now) }
 {
     let id = line.id.clone()?;
-    let weights = copied_weights(&line.weights)?;
+    let weights = line.weights.clone()?;
     Ok(OrderLine { id, weights })
-}
-
-// Copies of weights, if any are given.
-fn copied_weights(weights: &Option<ListBuf<Weight>>) -> Result<Option<ListBuf<Weight>>, AllocError>
-    ensures { IfOk result (λ copy. copy ≡ weights.now) }
-{
-    match weights {
-        Some(weights) => {
-            let copy = weights.clone()?;
-            Ok(Some(copy))
-        }
-        None => Ok(None),
-    }
 }

@@ -29,16 +29,16 @@ ghost use Rattle.coll_edit.specs.Watching.{device_of};
 
 mod own_answers;
 
-use crate::changes::{Asked, Told, asked_of, tell_again, tell_back, told_of};
+use crate::changes::{Asked, PUT_AGAIN, TAKEN_BACK, Told, asked_of, tell_statement, told_of};
 use crate::copies::copied_statement;
 use crate::devices::OpensFiles;
 use crate::messages::{
-    Hint, Origin, end_prompt, hint_by_name, hint_for, prompt, tell_refusal, tell_unwritten,
+    Hint, Origin, hint_by_name, hint_for, tell_refusal, tell_unwritten, tell_words,
 };
-use crate::notes::{Note, note_on, tell_note, tell_unended};
+use crate::notes::{Note, UNENDED, note_on, tell_note};
 use crate::own_lines::{OwnLine, own_line};
 use crate::stored::Stored;
-use crate::typed_lines::{LineFault, TypedLines};
+use crate::typed_lines::TypedLines;
 use crate::watched::Watched;
 use coll_advice::{Found, faults_of};
 use coll_bench::{
@@ -67,6 +67,29 @@ pub struct Editor {
     // The line of the last `:quit` that told of statements which stand in no file.
     warned: Option<u32>,
     alloc: Global,
+}
+
+// What there is to tell of a request, by what it finds before it is answered.
+#[derive(Drop)]
+struct Remarks {
+    // What is wrong with its statement; nothing where that can't be told.
+    found: Option<Vec<Found>>,
+    // What is to be noted of its statement, if it is accepted.
+    note: Option<Note>,
+    // The line of a request that is refused by itself.
+    line: Option<u32>,
+}
+
+impl Remarks {
+    // The first thing found that is refused with this number.
+    fn first_with(&self, number: u8) -> Option<&Found> {
+        for found in self.found.as_ref()? {
+            if found.refusal.number() == number {
+                return Some(found);
+            }
+        }
+        None
+    }
 }
 
 /// What comes next.
@@ -159,9 +182,16 @@ impl Editor {
         }
     }
 
-    /// Asks for a line, or for one of the block that is open.
-    pub(crate) fn prompt<M: Sink>(&self, messages: &mut M) {
-        prompt(messages, self.run.is_open());
+    /// Asks a person for a line, or for one of the block that is open.
+    pub(crate) fn ask<M: Sink>(&self, messages: &mut M, prompts: bool) {
+        if prompts {
+            let prompt: &[u8] = if self.run.is_open() {
+                b"block> "
+            } else {
+                b"> "
+            };
+            tell_words(messages, prompt);
+        }
     }
 
     /// Serves one physical line. Where a person is asked for lines, what is taken back, and what was never written, is told.
@@ -219,7 +249,11 @@ impl Editor {
             Some(own) => {
                 drop(request);
                 self.answered = true;
-                self.answer_own(own, output, messages, files, prompts)
+                let next = self.next_behind(&own, messages, prompts);
+                match self.answer_own(own, output, messages, files) {
+                    Ok(()) => Ok(next),
+                    Err(stop) => Err(write_failed(stop)),
+                }
             }
             None => match self.answer_asked(request, output, messages, prompts) {
                 Ok(()) => Ok(Next::Line),
@@ -264,31 +298,19 @@ impl Editor {
     {
         let asked = asked_of(&request);
         let before = self.run.session().remaining_len();
-        let back = self.told_back(asked, before, prompts);
+        // What is taken back is no longer lent behind the answer.
+        let back = match asked {
+            Asked::Undo if prompts => self.told_at(before),
+            Asked::Withdrawal(number) if prompts => self.told_at(number),
+            _ => None,
+        };
         let answered = self.answer_request(request, output, messages);
-        self.stored = Some(self.stored_behind(asked, before));
+        let now = self.run.session().remaining_len();
+        let stored = Stored::noted(self.stored, before);
+        self.stored = Some(stored.behind_request(asked, before, now));
         self.tell_change(asked, before, &back, messages, prompts);
         drop(back);
         answered
-    }
-
-    // What is told of the statement that is to be taken back, if one is, and a person is told.
-    fn told_back(&self, asked: Asked, remaining: u32, prompts: bool) -> Option<Told> {
-        let number = match asked {
-            Asked::Undo if prompts => remaining,
-            Asked::Withdrawal(number) if prompts => number,
-            _ => return None,
-        };
-        match self.run.session().remaining(number) {
-            Some(statement) => told_of(self.alloc, statement),
-            None => None,
-        }
-    }
-
-    // Which statements stand in a file behind a request, before which so many remained.
-    fn stored_behind(&self, asked: Asked, before: u32) -> Stored {
-        let now = self.run.session().remaining_len();
-        Stored::noted(self.stored, before).behind_request(asked, before, now)
     }
 
     // Tells a person what a request took back or put again, before which so many remained.
@@ -303,27 +325,24 @@ impl Editor {
         if !prompts {
             return;
         }
-        let session = self.run.session();
-        let now = session.remaining_len();
+        let now = self.run.session().remaining_len();
         match (asked, back) {
             (Asked::Undo | Asked::Withdrawal(_), Some(told)) if now < before => {
-                tell_back(messages, told)
+                tell_statement(messages, TAKEN_BACK, told)
             }
             (Asked::Redo, _) if now > before => {
-                if let Some(statement) = session.remaining(now) {
-                    self.tell_put_again(statement, messages);
+                if let Some(told) = self.told_at(now) {
+                    tell_statement(messages, PUT_AGAIN, &told);
+                    drop(told);
                 }
             }
             _ => {}
         }
     }
 
-    // Tells that a statement was put again.
-    fn tell_put_again<M: Sink>(&self, statement: &Statement, messages: &mut M) {
-        if let Some(told) = told_of(self.alloc, statement) {
-            tell_again(messages, &told);
-            drop(told);
-        }
+    // What is told of the statement with a number, if one has it.
+    fn told_at(&self, number: u32) -> Option<Told> {
+        told_of(self.alloc, self.run.session().remaining(number)?)
     }
 
     // Answers a request as the session does, and tells what its refusal says.
@@ -342,19 +361,15 @@ impl Editor {
         ensures parser { lexer_of (run_of self.new) ≡ lexer_of (run_of self.old) }
         ensures unanswered { answered_by self.new ≡ answered_by self.old }
     {
-        let found = self.found_in(&request);
-        let note = self.note_in(&request);
-        let line = refused_line(&request);
+        let remarks = self.remarks_on(&request);
         let answered = self.run.answer_if(self.alloc, request, output);
-        self.tell_found(output, messages, &found, line);
-        self.tell_noted(output, messages, &note);
-        drop(note);
-        drop(found);
+        self.tell_remarks(&remarks, output, messages);
+        drop(remarks);
         answered
     }
 
-    // What is wrong with the statement of a request; nothing where that can't be told.
-    fn found_in(&self, request: &Option<RequestAt>) -> Vec<Found>
+    // What there is to tell of a request, over the table as it stands before it is answered.
+    fn remarks_on(&self, request: &Option<RequestAt>) -> Remarks
         requires { IfSome request.now (λ completed. IsProperRequest completed.request) }
     {
         match request {
@@ -363,39 +378,29 @@ impl Editor {
                     request: Request::Statement(statement),
                     ..
                 },
-            ) => match faults_of(self.alloc, self.run.session().table(), statement) {
-                Ok(found) => found,
-                Err(_) => Vec::new(self.alloc),
-            },
-            _ => Vec::new(self.alloc),
-        }
-    }
-
-    // What is to be noted of the statement of a request, if it is accepted.
-    fn note_in(&self, request: &Option<RequestAt>) -> Option<Note> {
-        match request {
+            ) => {
+                let table = self.run.session().table();
+                Remarks {
+                    found: faults_of(self.alloc, table, statement).ok(),
+                    note: note_on(table, statement),
+                    line: None,
+                }
+            }
             Some(
                 RequestAt {
-                    request: Request::Statement(statement),
-                    ..
+                    request: Request::Refused(_),
+                    line,
                 },
-            ) => note_on(self.run.session().table(), statement),
-            _ => None,
-        }
-    }
-
-    // Tells what was noted of a statement, if it was accepted.
-    fn tell_noted<W: Sink, M: Sink>(
-        &self,
-        output: &Watched<W>,
-        messages: &mut M,
-        note: &Option<Note>,
-    ) {
-        if output.refusal().is_some() {
-            return;
-        }
-        if let Some(note) = note {
-            tell_note(messages, self.run.session().table(), note);
+            ) => Remarks {
+                found: None,
+                note: None,
+                line: Some(*line),
+            },
+            _ => Remarks {
+                found: None,
+                note: None,
+                line: None,
+            },
         }
     }
 
@@ -406,55 +411,50 @@ impl Editor {
     {
         let is_open = self.run.is_open();
         if let Some(fault) = self.typed.untold(was_open, is_open, completes) {
-            let hint = self.hint(fault.number);
+            let hint = hint_for(self.typed.wish(), self.typed.name(), fault.number);
             let table = self.run.session().table();
-            tell_refusal(messages, table, fault.number, origin_in(fault), hint);
+            let origin = match fault.line {
+                Some(line) => Origin::Block(line),
+                None => Origin::Here,
+            };
+            tell_refusal(messages, table, fault.number, origin, hint);
         }
         if was_open && self.typed.opens() {
-            tell_unended(messages);
+            tell_words(messages, UNENDED);
         }
     }
 
     // Tells what the refusal says that was told, if one was, with the first thing found that is refused so. That of an earlier line
-    // was told with that line.
-    fn tell_found<W: Sink, M: Sink>(
+    // was told with that line. Of a statement that was accepted its note is told.
+    fn tell_remarks<W: Sink, M: Sink>(
         &self,
+        remarks: &Remarks,
         output: &Watched<W>,
         messages: &mut M,
-        found: &[Found],
-        line: Option<u32>,
     ) {
-        let Some(number) = output.refusal() else {
-            return;
-        };
-        if self.is_earlier(line) && self.typed.has_told(number) {
-            return;
-        }
         let table = self.run.session().table();
-        let hint = match output.needed_by() {
-            Some(statement) => Hint::NeededBy(statement),
-            None => self.hint(number),
+        let Some(number) = output.refusal() else {
+            if let Some(note) = &remarks.note {
+                tell_note(messages, table, note);
+            }
+            return;
         };
-        match first_with(found, number) {
-            Some(found) => tell_refusal(messages, table, number, Origin::Found(found), hint),
-            None => tell_refusal(messages, table, number, Origin::Here, hint),
-        }
-    }
-
-    // What to do about a refusal of the line that was taken last, where more is known than its number.
-    fn hint(&self, number: u8) -> Hint<'_> {
-        match hint_for(self.typed.wish(), number) {
-            Hint::Nothing => hint_by_name(self.typed.name(), number),
-            hint => hint,
-        }
-    }
-
-    // Whether a line comes before the one that was taken last.
-    fn is_earlier(&self, line: Option<u32>) -> bool {
-        match line {
+        let is_earlier = match remarks.line {
             Some(line) => line < self.lines,
             None => false,
+        };
+        if is_earlier && self.typed.has_told(number) {
+            return;
         }
+        let hint = match output.needed_by() {
+            Some(statement) => Hint::NeededBy(statement),
+            None => hint_for(self.typed.wish(), self.typed.name(), number),
+        };
+        let origin = match remarks.first_with(number) {
+            Some(found) => Origin::Found(found),
+            None => Origin::Here,
+        };
+        tell_refusal(messages, table, number, origin, hint);
     }
 
     // Tells what the refusal says that was told, if one was.
@@ -475,12 +475,13 @@ impl Editor {
         let Some(number) = output.refusal() else {
             return;
         };
-        let hint = match own {
-            OwnLine::Wrong(_) => hint_by_name(self.typed.name(), number),
-            _ => Hint::Nothing,
+        let (origin, hint) = match own {
+            OwnLine::Show(id) => (Origin::Id(id), Hint::Nothing),
+            OwnLine::Wrong(_) => (Origin::Here, hint_by_name(self.typed.name(), number)),
+            _ => (Origin::Here, Hint::Nothing),
         };
         let table = self.run.session().table();
-        tell_refusal(messages, table, number, origin_of(own), hint);
+        tell_refusal(messages, table, number, origin, hint);
     }
 
     /// Ends the edit with its text.
@@ -496,21 +497,17 @@ impl Editor {
         ensures input { IfErr result (λ ended. ended.input ≡ 0) }
     {
         if prompts {
-            end_prompt(messages);
+            // The line of the prompt that was not answered ends.
+            tell_words(messages, b"\n");
         }
         output.forget();
         let ended = self.run.finish(output);
         self.tell_told(output, messages, Origin::Here);
-        self.tell_lost(messages, prompts);
-        ended
-    }
-
-    // Tells a person how many statements stand in no file, where any do.
-    fn tell_lost<M: Sink>(&self, messages: &mut M, prompts: bool) {
         let missing = self.unwritten();
         if prompts && missing > 0 {
             tell_unwritten(messages, missing, true);
         }
+        ended
     }
 
     /// Ends the edit where no further line could be read.
@@ -566,36 +563,4 @@ fn no_memory_at(input: usize, line: u32) -> RunFault
         line,
         fault: Fault::Lex(LexFault::OutOfMemory),
     }
-}
-
-// Where the refusal of a line of `edit` comes from.
-fn origin_of(own: &OwnLine) -> Origin<'_> {
-    match own {
-        OwnLine::Show(id) => Origin::Id(id),
-        _ => Origin::Here,
-    }
-}
-
-// The number of the line that a refused request comes from.
-fn refused_line(request: &Option<RequestAt>) -> Option<u32> {
-    match request {
-        Some(request) => match &request.request {
-            Request::Refused(_) => Some(request.line),
-            _ => None,
-        },
-        None => None,
-    }
-}
-
-// Where the fault of a line comes from that no reply tells.
-fn origin_in(fault: LineFault) -> Origin<'static> {
-    match fault.line {
-        Some(line) => Origin::Block(line),
-        None => Origin::Here,
-    }
-}
-
-// The first thing found that is refused with this number.
-fn first_with(found: &[Found], number: u8) -> Option<&Found> {
-    found.iter().find(|found| found.refusal.number() == number)
 }

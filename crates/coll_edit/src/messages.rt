@@ -30,16 +30,9 @@ const NO_WEIGHTS: u8 = 55;
 
 const BLOCK_OPEN: u8 = 62;
 
-/// Asks for a line.
-pub(crate) fn prompt<M: Sink>(messages: &mut M, open: bool) {
-    let asked: &[u8] = if open { b"block> " } else { b"> " };
-    let _ = write_pieces(messages, &[Piece::Bytes(asked)]);
-    let _ = messages.flush();
-}
-
-/// Ends the line of a prompt that was not answered.
-pub(crate) fn end_prompt<M: Sink>(messages: &mut M) {
-    let _ = write_pieces(messages, &[Piece::Bytes(b"\n")]);
+/// Tells these words.
+pub(crate) fn tell_words<M: Sink>(messages: &mut M, words: &[u8]) {
+    let _ = write_pieces(messages, &[Piece::Bytes(words)]);
     let _ = messages.flush();
 }
 
@@ -116,35 +109,22 @@ pub(crate) fn hint_by_name(name: Option<&str>, number: u8) -> Hint<'_> {
     }
 }
 
-/// What to do about a refusal with a number, where a line asks for something in this way.
-pub(crate) fn hint_for(wish: Wish, number: u8) -> Hint<'static> {
+/// What to do about a refusal with a number, where a line asks for something in this way, or has this name without its brackets.
+pub(crate) fn hint_for(wish: Wish, name: Option<&str>, number: u8) -> Hint<'_> {
     match wish {
-        Wish::Nothing => Hint::Nothing,
-        Wish::Help => meant(":help", number),
-        Wish::End => meant(":quit", number),
+        Wish::Help if is_of_word(number) => Hint::Meant(":help"),
+        Wish::End if is_of_word(number) => Hint::Meant(":quit"),
         Wish::EndHere if number == BLOCK_OPEN => Hint::OpenBlock,
-        Wish::EndHere => Hint::Nothing,
-        Wish::Comment if is_of_line(number) => Hint::Comment,
-        Wish::Comment => Hint::Nothing,
+        Wish::Comment if is_of_word(number) => Hint::Comment,
+        Wish::Comment if number == EXTRA_OPERAND || number == BAD_OPERAND => Hint::Comment,
         Wish::Foreign(word) if number == UNKNOWN_STATEMENT => Hint::Foreign(word),
-        Wish::Foreign(_) => Hint::Nothing,
+        _ => hint_by_name(name, number),
     }
 }
 
-// That a command is meant, where a word or a character is refused as what it isn't.
-fn meant(command: &'static str, number: u8) -> Hint<'static> {
-    if number == UNKNOWN_STATEMENT || number == NOT_PLACED || number == NO_WEIGHTS {
-        return Hint::Meant(command);
-    }
-    Hint::Nothing
-}
-
-// Whether a refusal may come from a line that was meant as a comment.
-fn is_of_line(number: u8) -> bool {
-    matches!(
-        number,
-        UNKNOWN_STATEMENT | EXTRA_OPERAND | BAD_OPERAND | NOT_PLACED | NO_WEIGHTS
-    )
+// Whether a word or a character is refused as what it isn't.
+fn is_of_word(number: u8) -> bool {
+    number == UNKNOWN_STATEMENT || number == NOT_PLACED || number == NO_WEIGHTS
 }
 
 /// Tells what a refusal says, by its number: where it comes from, what it is about, and what to do.
@@ -181,11 +161,11 @@ fn write_told<M: Sink>(
     )?;
     match hint {
         Hint::Nothing => write_advised(messages, table, number, origin),
-        Hint::Meant(command) => write_meant(messages, command),
+        Hint::Meant(command) => write_meant(messages, Piece::Bytes(command.as_bytes())),
         Hint::OpenBlock => write_pieces(messages, &[Piece::Bytes(OPEN_BLOCK)]),
         Hint::Comment => write_pieces(messages, &[Piece::Bytes(NO_COMMENT)]),
         Hint::NeededBy(number) => write_needed(messages, number),
-        Hint::Name(name) => write_bracketed(messages, name),
+        Hint::Name(name) => write_meant(messages, Piece::Symbol(name)),
         Hint::Foreign(word) => write_foreign(messages, word),
     }
 }
@@ -197,28 +177,10 @@ const OPEN_BLOCK: &[u8] =
 // What a line says that was meant as a comment.
 const NO_COMMENT: &[u8] = b": % begins no comment here; behind a line comment_char % it does\n";
 
-// Writes which command is meant.
-fn write_meant<M: Sink>(messages: &mut M, command: &str) -> Result<(), WriteStop> {
-    write_pieces(
-        messages,
-        &[
-            Piece::Bytes(b": is "),
-            Piece::Bytes(command.as_bytes()),
-            Piece::Bytes(b" meant?\n"),
-        ],
-    )
-}
-
-// Writes which name is meant, between its brackets.
-fn write_bracketed<M: Sink>(messages: &mut M, name: &str) -> Result<(), WriteStop> {
-    write_pieces(
-        messages,
-        &[
-            Piece::Bytes(b": is "),
-            Piece::Symbol(name),
-            Piece::Bytes(b" meant?\n"),
-        ],
-    )
+// Writes which command is meant, or which name between its brackets.
+fn write_meant<M: Sink>(messages: &mut M, meant: Piece<'_>) -> Result<(), WriteStop> {
+    let pieces = [Piece::Bytes(b": is "), meant, Piece::Bytes(b" meant?\n")];
+    write_pieces(messages, &pieces)
 }
 
 // Writes which keyword is meant, as a lint does.
@@ -249,74 +211,54 @@ fn write_needed<M: Sink>(messages: &mut M, number: u32) -> Result<(), WriteStop>
     )
 }
 
-// Writes what a refusal is about, and what its number says to do.
+// Writes what a refusal is about, and what its number says to do, or why a file can't be opened.
 fn write_advised<M: Sink>(
     messages: &mut M,
     table: &Table,
     number: u8,
     origin: Origin<'_>,
 ) -> Result<(), WriteStop> {
-    match origin {
-        Origin::Unopened(name, reason) => write_reason(messages, name, reason),
-        Origin::Found(found) => write_about(messages, table, number, found.id.as_ref()),
-        Origin::Id(id) => write_about(messages, table, number, Some(id)),
-        Origin::Here | Origin::Block(_) | Origin::File(..) => {
-            write_about(messages, table, number, None)
+    let id = match origin {
+        Origin::Unopened(name, reason) => {
+            return write_pieces(
+                messages,
+                &[
+                    Piece::Bytes(b" "),
+                    Piece::Bytes(name.as_bytes()),
+                    Piece::Bytes(b": "),
+                    Piece::Bytes(reason.words().as_bytes()),
+                    Piece::Bytes(b"\n"),
+                ],
+            );
         }
-    }
-}
-
-// Writes what a refusal is about, and what to do.
-fn write_about<M: Sink>(
-    messages: &mut M,
-    table: &Table,
-    number: u8,
-    id: Option<&Id>,
-) -> Result<(), WriteStop> {
+        Origin::Found(found) => found.id.as_ref(),
+        Origin::Id(id) => Some(id),
+        Origin::Here | Origin::Block(_) | Origin::File(..) => None,
+    };
     write_advice(messages, number, id, near(table, number, id))
 }
 
-// Writes why a file can't be opened.
-fn write_reason<M: Sink>(
-    messages: &mut M,
-    name: &str,
-    reason: FileReason,
-) -> Result<(), WriteStop> {
-    write_pieces(
-        messages,
-        &[
-            Piece::Bytes(b" "),
-            Piece::Bytes(name.as_bytes()),
-            Piece::Bytes(b": "),
-            Piece::Bytes(reason.words().as_bytes()),
-            Piece::Bytes(b"\n"),
-        ],
-    )
-}
-
-// Writes where a refusal comes from, if that is not the line that was replied to.
+// Writes where a refusal comes from, if that is not the line that was replied to: a line of a block by its number there, from 1.
 fn write_origin<M: Sink>(messages: &mut M, origin: Origin<'_>) -> Result<(), WriteStop> {
-    match origin {
-        Origin::Here | Origin::Id(_) | Origin::Unopened(..) | Origin::File(_, 0) => Ok(()),
-        Origin::File(name, line) => write_pieces(
-            messages,
-            &[
-                Piece::Bytes(name.as_bytes()),
-                Piece::Bytes(b":"),
-                Piece::Number(u64::from(line)),
-                Piece::Bytes(b": "),
-            ],
-        ),
-        Origin::Block(line) => write_line(messages, line),
+    let line = match origin {
+        Origin::Here | Origin::Id(_) | Origin::Unopened(..) | Origin::File(_, 0) => return Ok(()),
+        Origin::File(name, line) => {
+            return write_pieces(
+                messages,
+                &[
+                    Piece::Bytes(name.as_bytes()),
+                    Piece::Bytes(b":"),
+                    Piece::Number(u64::from(line)),
+                    Piece::Bytes(b": "),
+                ],
+            );
+        }
+        Origin::Block(line) => line,
         Origin::Found(found) => match found.line {
-            Some(line) => write_line(messages, line.saturating_add(1)),
-            None => Ok(()),
+            Some(line) => line.saturating_add(1),
+            None => return Ok(()),
         },
-    }
-}
-
-// Writes a line of a block, by its number there, from 1.
-fn write_line<M: Sink>(messages: &mut M, line: usize) -> Result<(), WriteStop> {
+    };
     write_pieces(
         messages,
         &[

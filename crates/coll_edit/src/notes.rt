@@ -5,7 +5,7 @@
 //! new weights are to be written. And a block that another one ends has no `reorder-end`, which may have been forgotten.
 
 use coll_devices::Sink;
-use coll_syntax::{Id, OrderLine, Statement, Weight};
+use coll_syntax::{Id, Statement, Weight};
 use coll_table::Table;
 use coll_texts::{Piece, write_pieces};
 
@@ -23,23 +23,15 @@ pub(crate) fn note_on(table: &Table, statement: &Statement) -> Option<Note> {
     let Statement::Block { lines, .. } = statement else {
         return None;
     };
-    let place = lines
-        .get()
-        .iter()
-        .position(|line| keeps_weights(table, line))?;
-    let moved = lines.get().get(place)?;
-    match moved.id.clone() {
-        Ok(id) => Some(Note {
-            id,
-            line: place.saturating_add(1),
-        }),
-        Err(_) => None,
+    for (place, line) in lines.get().iter().enumerate() {
+        // It moves what weighs as another at the first level, and gives it no weights.
+        if line.weights.is_none() && first_weight(table, &line.id).is_some() {
+            let id = line.id.clone().ok()?;
+            let line = place.saturating_add(1);
+            return Some(Note { id, line });
+        }
     }
-}
-
-// Whether a line moves what weighs as another at the first level, and gives it no weights.
-fn keeps_weights(table: &Table, line: &OrderLine) -> bool {
-    line.weights.is_none() && first_weight(table, &line.id).is_some()
+    None
 }
 
 // What an entry weighs as at the first level, if it isn't itself: the first of these, where they are several.
@@ -55,26 +47,17 @@ pub(crate) fn tell_note<'a, M: Sink>(messages: &mut M, table: &'a Table, note: &
     let Some(other) = first_weight(table, &note.id) else {
         return;
     };
-    let Some(before) = weight_before(table, &note.id) else {
+    let Some(entry) = table.entry_before(&note.id) else {
         return;
+    };
+    // What stands before it weighs as another one at the first level, or as itself.
+    let before = match first_weight(table, entry.id()) {
+        Some(weight) => weight,
+        None => entry.id(),
     };
     if other.is_same(before) {
         return;
     }
-    write_note(messages, note, other, before);
-}
-
-// What the entry before another weighs as at the first level: another one, or itself.
-fn weight_before<'a>(table: &'a Table, id: &Id) -> Option<&'a Id> {
-    let before = table.entry_before(id)?;
-    match first_weight(table, before.id()) {
-        Some(other) => Some(other),
-        None => Some(before.id()),
-    }
-}
-
-// Writes what is to be moved in place of what was, and behind what.
-fn write_note<'a, M: Sink>(messages: &mut M, note: &'a Note, other: &'a Id, before: &'a Id) {
     let _ = write_pieces(
         messages,
         &[
@@ -94,11 +77,6 @@ fn write_note<'a, M: Sink>(messages: &mut M, note: &'a Note, other: &'a Id, befo
     let _ = messages.flush();
 }
 
-/// Tells that a block ended without `reorder-end`, since another one begins.
-pub(crate) fn tell_unended<M: Sink>(messages: &mut M) {
-    let _ = write_pieces(messages, &[Piece::Bytes(UNENDED)]);
-    let _ = messages.flush();
-}
-
-const UNENDED: &[u8] =
+/// What is told of a block that ended without `reorder-end`, since another one begins.
+pub(crate) const UNENDED: &[u8] =
     b"note: the block before has no reorder-end: it ended where this one begins\n";

@@ -1,8 +1,8 @@
 //! The lines that stand beside those of a session: what each of them asks for.
 //!
 //! Such a line is one physical line, and is read with `#` and `\`, whichever characters the text has chosen, and with each `#` within a
-//! word as a character of it (`word_signs`), so that a name of a file is spelled as it is. A new line is a variant of `OwnLine`, a case of `own_words` and of `own_words` in `specs/OwnLines.antt`, of
-//! `answer_lent` or `answer_table` in `editors`, and a line of the help.
+//! word as a character of it (`word_signs`), so that a name of a file is spelled as it is. A new line is a variant of `OwnLine`, a case
+//! of `own_words` and of `own_words` in `specs/OwnLines.antt`, of `answer_lent` or `write_answer` in `editors`, and a line of the help.
 
 ghost use Rattle.std.specs.Prelude.{◌≡◌, ◌≢◌, Ok, Err, Some, IfOk, IfErr, Result};
 ghost use Rattle.coll_lex.specs.LogicalLines.{first_state};

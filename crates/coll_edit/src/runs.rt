@@ -2,7 +2,6 @@
 
 ghost use Rattle.std.specs.Prelude.{◌≡◌, true, IfErr};
 ghost use Rattle.coll_devices.specs.LineReading.{no_line};
-ghost use Rattle.coll_bench.specs.Serving.{never_ran};
 ghost use Rattle.coll_edit.specs.EditRuns.{IsUnserved, LeavesSome, RunsAsSession, RunsUnanswered};
 ghost use Rattle.coll_edit.specs.Editing.{has_answered};
 ghost use Rattle.coll_edit.specs.Watching.{device_of};
@@ -40,7 +39,12 @@ pub fn edit_lines<R: Source, W: Sink, M: Sink, F: OpensFiles>(
             drop(reader);
             ran
         }
-        Err(_) => Err(no_memory()),
+        // Memory was refused before the run began.
+        Err(_) => Err(RunFault {
+            input: 0,
+            line: 0,
+            fault: Fault::Lex(LexFault::OutOfMemory),
+        }),
     }
 }
 
@@ -62,7 +66,7 @@ fn serve_lines<R: Source, W: Sink, M: Sink, F: OpensFiles>(
     ensures input { IfErr result (λ ended. ended.input ≡ 0) }
 {
     'lines: loop {
-        ask(editor, messages, prompts);
+        editor.ask(messages, prompts);
         match reader.advance(input) {
             Ok(true) => match editor.serve(reader.line(), output, messages, files, prompts) {
                 Ok(Next::Line) => {}
@@ -72,23 +76,5 @@ fn serve_lines<R: Source, W: Sink, M: Sink, F: OpensFiles>(
             Ok(false) => return editor.finish(output, messages, prompts),
             Err(stop) => return Err(editor.cut_off(stop, output, messages)),
         }
-    }
-}
-
-// Asks for a line, where prompts are wanted.
-fn ask<M: Sink>(editor: &Editor, messages: &mut M, prompts: bool) {
-    if prompts {
-        editor.prompt(messages);
-    }
-}
-
-// The fault of a run for which memory was refused before it began.
-fn no_memory() -> RunFault
-    ensures { result ≡ never_ran }
-{
-    RunFault {
-        input: 0,
-        line: 0,
-        fault: Fault::Lex(LexFault::OutOfMemory),
     }
 }

@@ -148,10 +148,22 @@ impl TypedLines {
     /// The fault of the last line that no reply tells there, if it has one, by whether a block was open before it and is open behind
     /// it, and whether it completed a request.
     pub fn untold(&mut self, was_open: bool, is_open: bool, completes: bool) -> Option<LineFault> {
-        match self.last {
-            TypedLine::Command => None,
-            line if was_open && !completes => self.untold_within(line),
-            line => self.untold_at_edge(line, is_open),
+        let line = match self.last {
+            TypedLine::Command => return None,
+            line if was_open && !completes => return self.untold_within(line),
+            line => line,
+        };
+        // It opens a block or ends one. Where it ends one that none has spoiled before, the reply tells it.
+        let was_spoiled = self.first.is_some();
+        self.lines = 0;
+        self.first = None;
+        match line {
+            TypedLine::Fault(number) if is_open => {
+                self.first = Some(number);
+                Some(LineFault { line: None, number })
+            }
+            TypedLine::Fault(number) if was_spoiled => Some(LineFault { line: None, number }),
+            _ => None,
         }
     }
 
@@ -173,56 +185,31 @@ impl TypedLines {
             number,
         })
     }
-
-    // The fault of a line that opens a block or ends one. Where it ends one that none has spoiled before, the reply tells it.
-    fn untold_at_edge(&mut self, line: TypedLine, is_open: bool) -> Option<LineFault> {
-        let was_spoiled = self.first.is_some();
-        self.lines = 0;
-        self.first = None;
-        match line {
-            TypedLine::Fault(number) if is_open => {
-                self.first = Some(number);
-                Some(LineFault { line: None, number })
-            }
-            TypedLine::Fault(number) if was_spoiled => Some(LineFault { line: None, number }),
-            _ => None,
-        }
-    }
 }
 
 // What a line with tokens is to a block.
 fn line_of(alloc: Global, line: &Line) -> TypedLine
     requires { AreTokens line.now.tokens }
 {
-    if is_command(line) {
-        return TypedLine::Command;
+    match line.tokens.get().first() {
+        Some(Token::Word(word)) if word.get().len() > 1 && word.get().starts_with(':') => {
+            return TypedLine::Command;
+        }
+        _ => {}
     }
     match parse_delta_line(alloc, line) {
         Ok(read) => {
-            let typed = accepted(&read);
+            let typed = match &read {
+                DeltaLine::Order(_) => TypedLine::Order,
+                DeltaLine::ReorderAfter(_) => TypedLine::Opening,
+                DeltaLine::ReorderEnd => TypedLine::Nothing,
+                _ => TypedLine::Fault(RequestFault::BlockOpen.number()),
+            };
             drop(read);
             typed
         }
         Err(SyntaxFault::OutOfMemory) => TypedLine::Nothing,
         Err(fault) => TypedLine::Fault(fault.number()),
-    }
-}
-
-// Whether a line is a command.
-fn is_command(line: &Line) -> bool {
-    match line.tokens.get().first() {
-        Some(Token::Word(word)) => word.get().len() > 1 && word.get().starts_with(':'),
-        _ => false,
-    }
-}
-
-// What a line that the grammar accepts is to a block.
-fn accepted(line: &DeltaLine) -> TypedLine {
-    match line {
-        DeltaLine::Order(_) => TypedLine::Order,
-        DeltaLine::ReorderAfter(_) => TypedLine::Opening,
-        DeltaLine::ReorderEnd => TypedLine::Nothing,
-        _ => TypedLine::Fault(RequestFault::BlockOpen.number()),
     }
 }
 
@@ -233,7 +220,7 @@ fn wish_of(line: &Line) -> Wish {
         return Wish::Nothing;
     };
     match wish_by(word, rest.is_empty()) {
-        Wish::Nothing if tokens.iter().any(begins_comment) => Wish::Comment,
+        Wish::Nothing if has_comment(tokens) => Wish::Comment,
         Wish::Nothing => foreign_wish(word),
         wish => wish,
     }
@@ -278,26 +265,28 @@ fn may_lack_brackets(typed: TypedLine, line: &Line) -> bool {
     }
 }
 
-// The first word of a line that is a declared name; none where memory is refused.
+// The first word of several characters that is a declared name; none where memory is refused. One character is an identifier without
+// brackets.
 fn bare_name(table: &Table, line: &Line) -> Option<TextBuf> {
     for token in line.tokens.get() {
         match token {
-            Token::Word(word) if is_name_of(table, word.get()) => return word.try_copy().ok(),
+            Token::Word(word)
+                if word.get().chars().nth(1).is_some() && table.resolve(word.get()).is_some() => {
+                return word.try_copy().ok();
+            }
             _ => {}
         }
     }
     None
 }
 
-// Whether a word of several characters is a declared name. One character is an identifier without brackets.
-fn is_name_of(table: &Table, word: &str) -> bool {
-    word.chars().nth(1).is_some() && table.resolve(word).is_some()
-}
-
 // Whether a word begins as a comment does in many sources.
-fn begins_comment(word: &Token) -> bool {
-    match word {
-        Token::Word(word) => word.get().starts_with('%'),
-        _ => false,
+fn has_comment(tokens: &[Token]) -> bool {
+    for token in tokens {
+        match token {
+            Token::Word(word) if word.get().starts_with('%') => return true,
+            _ => {}
+        }
     }
+    false
 }

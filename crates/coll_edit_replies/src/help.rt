@@ -2,7 +2,7 @@
 
 ghost use Rattle.std.specs.Prelude.{◌≡◌, true, OnOk};
 ghost use Rattle.coll_devices.specs.Devices.{CountsErr, Sends};
-ghost use Rattle.coll_edit_replies.specs.Help.{SendsHelp, SendsNumberHelp, advised_line};
+ghost use Rattle.coll_edit_replies.specs.Help.{SendsHelp, advised_line};
 
 use crate::replies::{flush, write_refusal};
 use coll_advice::advice_of;
@@ -55,20 +55,11 @@ pub fn write_number_help<W: Sink>(out: &mut W, number: &str) -> Result<(), Write
     ensures flushed { OnOk result (W.flushed out.new ≡ true) }
 {
     match number.parse::<u8>() {
-        Ok(number) => write_fault_help(out, number),
+        Ok(number) => match advice_of(number) {
+            Some(advice) => write_advised(out, number, advice.name, advice.sentence),
+            None => write_refusal(out, Fault::Syntax(SyntaxFault::BadOperand)),
+        },
         Err(_) => write_refusal(out, Fault::Syntax(SyntaxFault::BadOperand)),
-    }
-}
-
-// Writes the name of the fault with a number, and what to do, or refuses a number that no fault has.
-fn write_fault_help<W: Sink>(out: &mut W, number: u8) -> Result<(), WriteStop>
-    ensures sent { SendsNumberHelp (W.taken out.old) (W.taken out.new) number result }
-    ensures errors { CountsErr (W.failed out.old) (W.failed out.new) result }
-    ensures flushed { OnOk result (W.flushed out.new ≡ true) }
-{
-    match advice_of(number) {
-        Some(advice) => write_advised(out, number, advice.name, advice.sentence),
-        None => write_refusal(out, Fault::Syntax(SyntaxFault::BadOperand)),
     }
 }
 

@@ -4,7 +4,7 @@
 //! the rank by the places of the entries, where these are known; else the entries before the one that is shown are counted. A character
 //! without an entry stands where `UNDEFINED` does, or behind all entries where that has none. Nothing here takes memory.
 
-ghost use Rattle.std.specs.Prelude.{◌≡◌, ◌≤◌, ◌+◌, ◌-◌, ◌++◌, ℕ, None, Some, true, chars, codes, length, option_copied, option_map, IfSome, OnOk};
+ghost use Rattle.std.specs.Prelude.{◌≡◌, ◌≤◌, ◌+◌, ◌-◌, ℕ, None, Some, true, chars, codes, length, option_copied, option_map, IfSome, OnOk};
 ghost use Rattle.std.specs.List.{flat_map};
 ghost use Rattle.coll_devices.specs.Devices.{CountsErr, Sends, Writes};
 ghost use Rattle.coll_syntax.specs.declared.identifiers.Id.TheVariants.{Undefined};
@@ -143,7 +143,7 @@ fn spot_of<'a>(table: &'a Table, places: Option<&EntryNumbers>, entry: &'a Entry
     }
 }
 
-// The place where a character without an entry comes.
+// The place where a character without an entry comes: that of `UNDEFINED`, or the one behind all entries.
 fn spot_of_absent<'a>(table: &'a Table, places: Option<&EntryNumbers>) -> Spot<'a>
     requires { IfSome places (λ numbers. AreNumbersOf numbers.now table.now.layout) }
     ensures around { IsSpot (entries_of (collation table.now)) result }
@@ -151,22 +151,16 @@ fn spot_of_absent<'a>(table: &'a Table, places: Option<&EntryNumbers>) -> Spot<'
 {
     match table.entry(&Id::Undefined) {
         Some(entry) => spot_of(table, places, entry),
-        None => spot_behind_all(table),
-    }
-}
-
-// The place behind all entries.
-fn spot_behind_all(table: &Table) -> Spot<'_>
-    ensures around { IsSpot (entries_of (collation table.now)) result }
-    ensures place { spot_place result ≡ place_of (collation table.now) None }
-{
-    table.lemma_well_formed();
-    Spot {
-        before: table.last_entry(),
-        here: None,
-        behind: None,
-        rank: table.len() as u64 + 1,
-        section: None,
+        None => {
+            table.lemma_well_formed();
+            Spot {
+                before: table.last_entry(),
+                here: None,
+                behind: None,
+                rank: table.len() as u64 + 1,
+                section: None,
+            }
+        }
     }
 }
 
@@ -196,21 +190,14 @@ fn entry_behind<'a>(table: &'a Table, one: Option<&'a Entry>) -> Option<&'a Entr
     }
 }
 
-// The rank of an identifier that has an entry.
+// The rank of an identifier that has an entry. Where the places aren't known, the entries up to it are counted.
 fn rank_of(table: &Table, places: Option<&EntryNumbers>, id: &Id) -> u64
     requires { IfSome places (λ numbers. AreNumbersOf numbers.now table.now.layout) }
     ensures { (place : ℕ) → place_among (entries_of (collation table.now)) id.now ≡ Some place → result ≡ place }
 {
-    match places {
-        Some(places) => u64::from(table.entry_number(places, id).unwrap_or(0)),
-        None => counted_rank(table, id),
+    if let Some(places) = places {
+        return u64::from(table.entry_number(places, id).unwrap_or(0));
     }
-}
-
-// The same, where the entries up to it are counted.
-fn counted_rank(table: &Table, id: &Id) -> u64
-    ensures { (place : ℕ) → place_among (entries_of (collation table.now)) id.now ≡ Some place → result ≡ place }
-{
     table.lemma_well_formed();
     let mut before = 0u64;
     let mut left = table.walk();
@@ -254,8 +241,12 @@ fn write_lines<W: Sink>(
     ensures { Writes (W.taken out.old) (W.taken out.new) (W.failed out.old) (W.failed out.new)
         (place_told (collation table.now) (flat_map piece_bytes words.now) (spot_place spot.now)) result }
 {
-    match write_around(out, table, spot) {
-        Ok(()) => write_last(out, words, spot),
+    // Not `?`: behind its conversion this exit would need a lemma.
+    if let Err(stop) = write_around(out, table, spot) {
+        return Err(stop);
+    }
+    match write_pieces(out, words) {
+        Ok(()) => write_rank(out, spot.rank, spot.section),
         Err(stop) => Err(stop),
     }
 }
@@ -317,36 +308,16 @@ fn write_marked<W: Sink>(out: &mut W, lines: &[MarkedLine<'_>]) -> Result<(), Wr
 fn write_line<W: Sink>(out: &mut W, line: &MarkedLine<'_>) -> Result<(), WriteStop>
     ensures { Writes (W.taken out.old) (W.taken out.new) (W.failed out.old) (W.failed out.new) (marked_bytes line.now) result }
 {
-    match line.entry {
-        Some(entry) => write_ranked(out, line.mark, line.rank, entry),
-        None => Ok(()),
-    }
-}
-
-// Writes an entry behind a mark and its rank.
-fn write_ranked<W: Sink>(
-    out: &mut W,
-    mark: &[u8],
-    rank: u64,
-    entry: &Entry,
-) -> Result<(), WriteStop>
-    ensures { Writes (W.taken out.old) (W.taken out.new) (W.failed out.old) (W.failed out.new)
-        (line_if mark.now rank (Some entry.now)) result }
-{
-    let head = [Piece::Bytes(mark), Piece::Number(rank), Piece::Bytes(b" ")];
+    let Some(entry) = line.entry else {
+        return Ok(());
+    };
+    let head = [
+        Piece::Bytes(line.mark),
+        Piece::Number(line.rank),
+        Piece::Bytes(b" "),
+    ];
     match write_pieces(out, &head) {
         Ok(()) => write_weighed(out, entry),
-        Err(stop) => Err(stop),
-    }
-}
-
-// Writes the last line: these words, the rank of a place, and its section, if that has a name.
-fn write_last<W: Sink>(out: &mut W, words: &[Piece<'_>], spot: &Spot<'_>) -> Result<(), WriteStop>
-    ensures { Writes (W.taken out.old) (W.taken out.new) (W.failed out.old) (W.failed out.new)
-        (flat_map piece_bytes words.now ++ rank_line spot.now.rank (option_map (λ name. chars name.now) spot.now.section)) result }
-{
-    match write_pieces(out, words) {
-        Ok(()) => write_rank(out, spot.rank, spot.section),
         Err(stop) => Err(stop),
     }
 }

@@ -6,7 +6,7 @@
 //! once. Words that compare equal stay in the order of their lines, in both orders. What their keys are made by is told by `word_keys`,
 //! and what is kept beside a word by `ToldLists`.
 
-ghost use Rattle.std.specs.Prelude.{◌≡◌, ◌++◌, ◌∷◌, [], chars, drop, false, length, IfErr, IfOk, OnOk};
+ghost use Rattle.std.specs.Prelude.{◌≡◌, ◌++◌, ◌∷◌, [], chars, drop, length, IfErr, IfOk, OnOk};
 ghost use Rattle.std.specs.List.Sorted.{IsPermutation, IsSorted};
 ghost use Rattle.coll_devices.specs.Devices.{Sends, Writes};
 ghost use Rattle.coll_devices.specs.PhysicalLines.{line_feed};
@@ -79,18 +79,12 @@ fn list_words<R: Source>(
     ensures block { block_of run.new ≡ block_of run.old }
     ensures parser { lexer_of run.new ≡ lexer_of run.old }
 {
-    let changed = has_changed(run);
+    // Where no statement remains, the table now is that before it.
+    let changed = run.session().remaining_len() != 0;
     match read_before(alloc, run, input) {
         Ok(list) => list_anew(alloc, run, changed, list),
         Err(ended) => Err(ended),
     }
-}
-
-// Whether a statement remains, so that the table now may be another one than that before it.
-fn has_changed(run: &RunState) -> bool
-    ensures { result ≡ false → table_before (history_of run.now) ≡ table_now (history_of run.now) }
-{
-    run.session().remaining_len() != 0
 }
 
 // The words of an input, with keys by the table before the last statement that remains, if one does.
@@ -128,29 +122,17 @@ fn read_keyed<R: Source>(
     ensures unchanged { run.new ≡ run.old }
 {
     match read_texts(alloc, input) {
-        Ok(texts) => keyed(alloc, run, texts),
-        Err(ended) => Err(ended),
-    }
-}
-
-// Texts as words with keys by the table of a session.
-fn keyed(
-    alloc: Global,
-    run: &mut RunState,
-    texts: Vec<TextBuf>,
-) -> Result<Vec<ListedWord>, RunFault>
-    ensures lines { IfOk result (λ list. all_numbered list.items ≡ numbered_from 1 texts.items) }
-    ensures keyed { IfOk result (λ list. AreListedBy (table_now (history_of run.old)) list.items) }
-    ensures fault { IfErr result (λ ended. IsStarved ended) }
-    ensures unchanged { run.new ≡ run.old }
-{
-    let looks = looks_for_texts(&texts);
-    match make_ready(run, looks) {
-        Ok(()) => keyed_by(alloc, run, looks, texts),
-        Err(_) => {
-            drop(texts);
-            Err(no_memory(0))
+        Ok(texts) => {
+            let looks = looks_for_texts(&texts);
+            match make_ready(run, looks) {
+                Ok(()) => keyed_by(alloc, run, looks, texts),
+                Err(_) => {
+                    drop(texts);
+                    Err(no_memory(0))
+                }
+            }
         }
+        Err(ended) => Err(ended),
     }
 }
 
@@ -158,10 +140,10 @@ fn keyed(
 fn make_ready(run: &mut RunState, looks: usize) -> Result<(), AllocError>
     ensures { run.new ≡ run.old }
 {
-    if are_few(run.session().table(), looks) {
-        run.give_places(looks)?;
+    if !are_few(run.session().table(), looks) {
+        return Ok(());
     }
-    Ok(())
+    run.give_places(looks)
 }
 
 // Texts as words with keys by the table of a session, whose entries have their places where that serves.
@@ -388,19 +370,12 @@ fn write_list<W: Sink>(out: &mut W, list: &[ListedWord]) -> Result<(), RunFault>
     ensures sent { Sends (W.taken out.old) (W.taken out.new) (list_bytes list.now) result }
     ensures fault { IfErr result (λ ended. ended ≡ failed_write) }
 {
-    match write_counted_words(out, list) {
+    if let Err(stop) = write_marked_words(out, list) {
+        return Err(write_failed(stop));
+    }
+    match write_count(out, b"words", list.len() as u64) {
         Ok(()) => Ok(()),
         Err(stop) => Err(write_failed(stop)),
-    }
-}
-
-// Writes words, each behind its mark, and how many they are.
-fn write_counted_words<W: Sink>(out: &mut W, list: &[ListedWord]) -> Result<(), WriteStop>
-    ensures { Sends (W.taken out.old) (W.taken out.new) (list_bytes list.now) result }
-{
-    match write_marked_words(out, list) {
-        Ok(()) => write_count(out, b"words", list.len() as u64),
-        Err(stop) => Err(stop),
     }
 }
 

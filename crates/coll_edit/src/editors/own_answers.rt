@@ -3,7 +3,7 @@
 //! They look at the table and the history, and at files, and change neither history nor block (`OwnReplies`). What is refused is told
 //! on standard error, as of all lines.
 
-ghost use Rattle.std.specs.Prelude.{◌≡◌, ◌<◌, [], chars, true, IfErr, Ok, OnOk, Some};
+ghost use Rattle.std.specs.Prelude.{◌≡◌, ◌<◌, [], chars, true, Ok, OnOk, Some};
 ghost use Rattle.coll_devices.specs.Devices.{Sends};
 ghost use Rattle.coll_bench.specs.Serving.{block_of, history_of, lexer_of};
 ghost use Rattle.coll_history.specs.Histories.{table_now};
@@ -19,7 +19,7 @@ use crate::messages::{Origin, tell_unwritten};
 use crate::own_lines::OwnLine;
 use crate::stored::Stored;
 use crate::watched::Watched;
-use coll_bench::{Fault, RunFault, write_failed};
+use coll_bench::{Fault, RunFault};
 use coll_devices::{ReadStop, Sink, WriteStop};
 use coll_edit_replies::{
     are_few, flush, write_count, write_help, write_number_help, write_refusal, write_shown,
@@ -30,6 +30,28 @@ use coll_lex::TextBuf;
 use coll_requests::{Command, Request, RequestAt};
 
 impl Editor {
+    /// What comes behind a line of `edit`: the end, behind `:quit`, unless a person is told at first of statements that stand in no file.
+    pub(crate) fn next_behind<M: Sink>(
+        &mut self,
+        own: &OwnLine,
+        messages: &mut M,
+        prompts: bool,
+    ) -> Next
+        ensures run { run_of self.new ≡ run_of self.old }
+        ensures answered { answered_by self.new ≡ answered_by self.old }
+    {
+        let OwnLine::Quit = own else {
+            return Next::Line;
+        };
+        let missing = self.unwritten();
+        if !prompts || missing == 0 || self.warned == Some(self.lines.saturating_sub(1)) {
+            return Next::End;
+        }
+        self.warned = Some(self.lines);
+        tell_unwritten(messages, missing, false);
+        Next::Line
+    }
+
     /// Answers a line of `edit`.
     pub(crate) fn answer_own<W: Sink, M: Sink, F: OpensFiles>(
         &mut self,
@@ -37,13 +59,11 @@ impl Editor {
         output: &mut Watched<W>,
         messages: &mut M,
         files: &mut F,
-        prompts: bool,
-    ) -> Result<Next, RunFault>
+    ) -> Result<(), WriteStop>
         ensures history { history_of (run_of self.new) ≡ history_of (run_of self.old) }
         ensures block { block_of (run_of self.new) ≡ block_of (run_of self.old) }
         ensures parser { lexer_of (run_of self.new) ≡ lexer_of (run_of self.old) }
         ensures answered { answered_by self.new ≡ answered_by self.old }
-        ensures input { IfErr result (λ ended. ended.input ≡ 0) }
     {
         match own {
             OwnLine::Key(text) => self.answer_command(Command::Key(text), output, messages),
@@ -51,7 +71,7 @@ impl Editor {
                 self.answer_command(Command::Compare(text, other), output, messages)
             }
             own => {
-                let answered = self.answer_lent(&own, output, messages, files, prompts);
+                let answered = self.answer_lent(&own, output, messages, files);
                 drop(own);
                 answered
             }
@@ -65,21 +85,20 @@ impl Editor {
         output: &mut Watched<W>,
         messages: &mut M,
         files: &mut F,
-        prompts: bool,
-    ) -> Result<Next, RunFault>
+    ) -> Result<(), WriteStop>
         ensures history { history_of (run_of self.new) ≡ history_of (run_of self.old) }
         ensures block { block_of (run_of self.new) ≡ block_of (run_of self.old) }
         ensures parser { lexer_of (run_of self.new) ≡ lexer_of (run_of self.old) }
         ensures answered { answered_by self.new ≡ answered_by self.old }
-        ensures input { IfErr result (λ ended. ended.input ≡ 0) }
     {
         match own {
-            OwnLine::Quit => Ok(self.answer_quit(messages, prompts)),
             OwnLine::Words(name) => self.answer_words(name.get(), output, messages, files),
             OwnLine::Write(name) => self.answer_write(name.get(), output, messages, files),
             _ => {
                 self.give_places(own);
-                self.answer_table(own, output, messages)
+                let wrote = self.write_answer(own, output);
+                self.tell_own(own, output, messages);
+                wrote
             }
         }
     }
@@ -90,22 +109,18 @@ impl Editor {
         command: Command,
         output: &mut Watched<W>,
         messages: &mut M,
-    ) -> Result<Next, RunFault>
+    ) -> Result<(), WriteStop>
         requires { IsLook command }
         ensures history { history_of (run_of self.new) ≡ history_of (run_of self.old) }
         ensures block { block_of (run_of self.new) ≡ block_of (run_of self.old) }
         ensures parser { lexer_of (run_of self.new) ≡ lexer_of (run_of self.old) }
         ensures answered { answered_by self.new ≡ answered_by self.old }
-        ensures input { IfErr result (λ ended. ended.input ≡ 0) }
     {
         let request = RequestAt {
             line: self.lines,
             request: Request::Command(command),
         };
-        match self.answer_request(Some(request), output, messages) {
-            Ok(()) => Ok(Next::Line),
-            Err(stop) => Err(write_failed(stop)),
-        }
+        self.answer_request(Some(request), output, messages)
     }
 
     // Gives the entries their places, where a line of `edit` looks something up by them. Where memory is refused there are none, and
@@ -118,31 +133,13 @@ impl Editor {
                 let _ = self.run.give_places(1);
             }
             OwnLine::Explain(text, other) => {
-                let looks = characters_in(text, other);
+                let count = text.get().chars().count();
+                let looks = count.saturating_add(other.get().chars().count());
                 if are_few(self.run.session().table(), looks) {
                     let _ = self.run.give_places(looks);
                 }
             }
             _ => {}
-        }
-    }
-
-    // Answers a line of `edit` that asks for nothing but the table and the history.
-    fn answer_table<W: Sink, M: Sink>(
-        &self,
-        own: &OwnLine,
-        output: &mut Watched<W>,
-        messages: &mut M,
-    ) -> Result<Next, RunFault>
-        ensures sent { SendsAnswer (history_of (run_of self.now)) own.now (W.taken (device_of output.old))
-            (W.taken (device_of output.new)) result }
-        ensures input { IfErr result (λ ended. ended.input ≡ 0) }
-    {
-        let wrote = self.write_answer(own, output);
-        self.tell_own(own, output, messages);
-        match wrote {
-            Ok(()) => Ok(Next::Line),
-            Err(stop) => Err(write_failed(stop)),
         }
     }
 
@@ -164,10 +161,10 @@ impl Editor {
     }
 
     // Writes the statements that remain, and flushes them.
-    fn write_delta<W: Sink>(&self, output: &mut Watched<W>) -> Result<(), WriteStop>
-        ensures sent { Sends (W.taken (device_of output.old)) (W.taken (device_of output.new))
+    fn write_delta<O: Sink>(&self, output: &mut O) -> Result<(), WriteStop>
+        ensures sent { Sends (O.taken output.old) (O.taken output.new)
             (delta_text [] (history_of (run_of self.now)).remaining) result }
-        ensures flushed { OnOk result (W.flushed (device_of output.new) ≡ true) }
+        ensures flushed { OnOk result (O.flushed output.new ≡ true) }
     {
         write_statements(output, self.run.session())?;
         flush(output)
@@ -210,37 +207,10 @@ impl Editor {
         }
     }
 
-    // Answers `:quit`: the edit ends, unless a person is told at first of statements that stand in no file.
-    fn answer_quit<M: Sink>(&mut self, messages: &mut M, prompts: bool) -> Next
-        ensures history { history_of (run_of self.new) ≡ history_of (run_of self.old) }
-        ensures block { block_of (run_of self.new) ≡ block_of (run_of self.old) }
-        ensures parser { lexer_of (run_of self.new) ≡ lexer_of (run_of self.old) }
-        ensures answered { answered_by self.new ≡ answered_by self.old }
-    {
-        let missing = self.unwritten();
-        if !prompts || missing == 0 || self.warned == Some(self.lines.saturating_sub(1)) {
-            return Next::End;
-        }
-        self.warned = Some(self.lines);
-        tell_unwritten(messages, missing, false);
-        Next::Line
-    }
-
     /// How many of the statements that remain stand in no file.
     pub(crate) fn unwritten(&self) -> u32 {
         let remaining = self.run.session().remaining_len();
         Stored::noted(self.stored, remaining).missing(remaining)
-    }
-
-    // Which statements stand in a file behind a `:write`, by whether it wrote those that remain.
-    fn stored_by(&self, wrote: bool) -> Stored {
-        let remaining = self.run.session().remaining_len();
-        let stored = Stored::noted(self.stored, remaining);
-        if wrote {
-            stored.behind_write(remaining)
-        } else {
-            stored
-        }
     }
 
     // Answers `:write`: the statements that remain go into a new file.
@@ -250,53 +220,33 @@ impl Editor {
         output: &mut Watched<W>,
         messages: &mut M,
         files: &mut F,
-    ) -> Result<Next, RunFault>
-        ensures history { history_of (run_of self.new) ≡ history_of (run_of self.old) }
-        ensures block { block_of (run_of self.new) ≡ block_of (run_of self.old) }
-        ensures parser { lexer_of (run_of self.new) ≡ lexer_of (run_of self.old) }
+    ) -> Result<(), WriteStop>
+        ensures run { run_of self.new ≡ run_of self.old }
         ensures answered { answered_by self.new ≡ answered_by self.old }
-        ensures input { IfErr result (λ ended. ended.input ≡ 0) }
     {
         match files.create(name) {
             Ok(mut file) => {
-                let wrote = self.write_file(&mut file);
+                let wrote = self.write_delta(&mut file);
                 drop(file);
-                self.stored = Some(self.stored_by(wrote.is_ok()));
-                self.reply_written(wrote, output, messages)
+                let remaining = self.run.session().remaining_len();
+                let stored = Stored::noted(self.stored, remaining);
+                let stored = if wrote.is_ok() {
+                    stored.behind_write(remaining)
+                } else {
+                    stored
+                };
+                self.stored = Some(stored);
+                let replied = match wrote {
+                    Ok(()) => write_count(output, b"written", u64::from(remaining)),
+                    Err(stop) => write_refusal(output, Fault::Write(stop)),
+                };
+                self.tell_told(output, messages, Origin::Here);
+                replied
             }
             Err(reason) => {
                 let fault = Fault::Write(WriteStop::WriteFault);
                 self.reply_fault(fault, Origin::Unopened(name, reason), output, messages)
             }
-        }
-    }
-
-    // Writes the statements that remain into a file.
-    fn write_file<O: Sink>(&self, file: &mut O) -> Result<(), WriteStop> {
-        write_statements(file, self.run.session())?;
-        flush(file)
-    }
-
-    // Replies to `:write`.
-    fn reply_written<W: Sink, M: Sink>(
-        &self,
-        wrote: Result<(), WriteStop>,
-        output: &mut Watched<W>,
-        messages: &mut M,
-    ) -> Result<Next, RunFault>
-        ensures { IfErr result (λ ended. ended.input ≡ 0) }
-    {
-        let replied = match wrote {
-            Ok(()) => {
-                let count = u64::from(self.run.session().remaining_len());
-                write_count(output, b"written", count)
-            }
-            Err(stop) => write_refusal(output, Fault::Write(stop)),
-        };
-        self.tell_told(output, messages, Origin::Here);
-        match replied {
-            Ok(()) => Ok(Next::Line),
-            Err(stop) => Err(write_failed(stop)),
         }
     }
 
@@ -307,12 +257,11 @@ impl Editor {
         output: &mut Watched<W>,
         messages: &mut M,
         files: &mut F,
-    ) -> Result<Next, RunFault>
+    ) -> Result<(), WriteStop>
         ensures history { history_of (run_of self.new) ≡ history_of (run_of self.old) }
         ensures block { block_of (run_of self.new) ≡ block_of (run_of self.old) }
         ensures parser { lexer_of (run_of self.new) ≡ lexer_of (run_of self.old) }
         ensures answered { answered_by self.new ≡ answered_by self.old }
-        ensures input { IfErr result (λ ended. ended.input ≡ 0) }
     {
         match files.open(name) {
             Ok(mut file) => {
@@ -334,13 +283,11 @@ impl Editor {
         wrote: Result<(), RunFault>,
         output: &mut Watched<W>,
         messages: &mut M,
-    ) -> Result<Next, RunFault>
-        ensures { IfErr result (λ ended. ended.input ≡ 0) }
-    {
+    ) -> Result<(), WriteStop> {
         match wrote {
-            Ok(()) => Ok(Next::Line),
+            Ok(()) => Ok(()),
             Err(ended) => match ended.fault {
-                Fault::Write(stop) => Err(write_failed(stop)),
+                Fault::Write(stop) => Err(stop),
                 fault => {
                     let origin = Origin::File(name, ended.line);
                     self.reply_fault(fault, origin, output, messages)
@@ -356,20 +303,9 @@ impl Editor {
         origin: Origin<'_>,
         output: &mut Watched<W>,
         messages: &mut M,
-    ) -> Result<Next, RunFault>
-        ensures { IfErr result (λ ended. ended.input ≡ 0) }
-    {
+    ) -> Result<(), WriteStop> {
         let replied = write_refusal(output, fault);
         self.tell_told(output, messages, origin);
-        match replied {
-            Ok(()) => Ok(Next::Line),
-            Err(stop) => Err(write_failed(stop)),
-        }
+        replied
     }
-}
-
-// How many characters two texts have together.
-fn characters_in(text: &TextBuf, other: &TextBuf) -> usize {
-    let count = text.get().chars().count();
-    count.saturating_add(other.get().chars().count())
 }

@@ -1,6 +1,7 @@
 -- The reading begins, unless memory is refused.
+use Rattle.std.proofs.Common.{refl}
 use Rattle.coll_bench.proofs.RunExits.{never_begun}
-use Rattle.coll_bench.specs.Serving.{history_of}
+use Rattle.coll_bench.specs.Serving.{history_of, never_ran}
 use Rattle.coll_edit.specs.Editing.{run_of}
 use Rattle.coll_edit.specs.Watching.{device_of}
 use Rattle.coll_edit.proofs.AskedLemmas.{as_session}
@@ -16,8 +17,8 @@ returns-in-Ok-clause-session g c unserved =
 
 pub returns-in-Err-clause-run : goal.returns-in-Err-clause-run
 returns-in-Err-clause-run g c unserved unanswered text before left_is taken_is =
-    never_begun (history_of (run_of c.args.editor.now)) text before (g.R.Source.left c.args.input.now) (g.W.Sink.taken (device_of c.args.output.now)) c.no_memory.result c.no_memory.ensures left_is taken_is
+    never_begun (history_of (run_of c.args.editor.now)) text before (g.R.Source.left c.args.input.now) (g.W.Sink.taken (device_of c.args.output.now)) never_ran refl left_is taken_is
 
 pub returns-in-Err-clause-session : goal.returns-in-Err-clause-session
 returns-in-Err-clause-session g c unserved nothing text before left_is taken_is =
-    never_begun (history_of (run_of c.args.editor.now)) text before (g.R.Source.left c.args.input.now) (g.W.Sink.taken (device_of c.args.output.now)) c.no_memory.result c.no_memory.ensures left_is taken_is
+    never_begun (history_of (run_of c.args.editor.now)) text before (g.R.Source.left c.args.input.now) (g.W.Sink.taken (device_of c.args.output.now)) never_ran refl left_is taken_is

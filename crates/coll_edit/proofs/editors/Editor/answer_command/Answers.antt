@@ -5,12 +5,7 @@ use Rattle.coll_edit.specs.Editing.{run_of}
 use Rattle.coll_edit.proofs.EditLemmas.{look_leaves}
 use Rattle.coll_edit.proofs.editors.Editor.answer_command.Goals as goal
 
-pub returns-in-Ok-clause-history : goal.returns-in-Ok-clause-history
-returns-in-Ok-clause-history g c =
-    let (starved, sent, history) = c.in-Ok.ensures.answered in
-    history ∙ look_leaves starved (history_of (run_of c.args.self.now)) c.args.self.now.lines c.args.command c.requires
-
-pub returns-in-Err-clause-history : goal.returns-in-Err-clause-history
-returns-in-Err-clause-history g c =
-    let (starved, sent, history) = c.in-Err.ensures.answered in
+pub returns-clause-history : goal.returns-clause-history
+returns-clause-history g c =
+    let (starved, sent, history) = c.answer_request.ensures.answered in
     history ∙ look_leaves starved (history_of (run_of c.args.self.now)) c.args.self.now.lines c.args.command c.requires

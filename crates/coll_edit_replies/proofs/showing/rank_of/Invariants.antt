@@ -4,7 +4,7 @@ use Rattle.coll_nodes.specs.Table.{entries_of}
 use Rattle.coll_nodes.specs.TableLayout.{collation}
 use Rattle.coll_nodes.specs.Walks.{entries_visited}
 use Rattle.coll_edit_replies.proofs.ShowingLemmas.{IsCounted}
-use Rattle.coll_edit_replies.proofs.showing.counted_rank.Given as goal
+use Rattle.coll_edit_replies.proofs.showing.rank_of.Given as goal
 
 abbrev pub invariant-walk : goal.invariant-walk
 invariant-walk l =

@@ -5,7 +5,7 @@ use Rattle.coll_nodes.specs.TableLayout.{collation}
 use Rattle.coll_nodes.specs.Walks.{entries_visited}
 use Rattle.coll_texts.proofs.VisitedEntries.{visited_all}
 use Rattle.coll_edit_replies.proofs.ShowingLemmas.{counted_none}
-use Rattle.coll_edit_replies.proofs.showing.counted_rank.Goals as goal
+use Rattle.coll_edit_replies.proofs.showing.rank_of.Goals as goal
 
 pub walk-init : goal.walk-init
 walk-init c =
