@@ -2,7 +2,7 @@
 //!
 //! Each line is a list of pieces, or parts one behind another (`specs/Explanations.antt`). None of this takes memory.
 
-ghost use Rattle.std.specs.Prelude.{◌≡◌, ◌++◌, ◌∷◌, [], Some, option_map};
+ghost use Rattle.std.specs.Prelude.{◌≡◌, ◌++◌, ◌∷◌, [], option_map};
 ghost use Rattle.std.specs.List.{flat_map};
 ghost use Rattle.coll_devices.specs.Devices.{Writes};
 ghost use Rattle.coll_devices.specs.PhysicalLines.{line_feed};
@@ -78,7 +78,7 @@ pub(crate) fn write_level<W: Sink>(
     write_difference(out, difference)
 }
 
-// Writes what the line of a level says behind its rule.
+// Writes what the line of a level says behind its rule: where two lists differ first, and what stands there in either.
 fn write_difference<W: Sink>(
     out: &mut W,
     difference: Option<Difference<'_>>,
@@ -86,27 +86,19 @@ fn write_difference<W: Sink>(
     ensures { Writes (W.taken out.old) (W.taken out.new) (W.failed out.old) (W.failed out.new)
         (difference_words (option_map apart_of difference.entry)) result }
 {
-    match difference {
-        None => write_bytes(out, b"equal\n"),
-        Some(difference) => write_apart(out, difference),
-    }
-}
-
-// Writes where two lists differ first, and what stands there in either.
-fn write_apart<W: Sink>(out: &mut W, difference: Difference<'_>) -> Result<(), WriteStop>
-    ensures { Writes (W.taken out.old) (W.taken out.new) (W.failed out.old) (W.failed out.new)
-        (difference_words (Some (apart_of difference.entry))) result }
-{
+    let Some(apart) = difference else {
+        return write_bytes(out, b"equal\n");
+    };
     write_pieces(
         out,
         &[
             Piece::Bytes(b"differs at "),
-            Piece::Number(difference.place),
+            Piece::Number(apart.place),
             Piece::Bytes(b": "),
         ],
     )?;
-    write_words(out, difference.at_position, difference.step, b", ")?;
-    write_words(out, difference.at_position, difference.other, b"\n")
+    write_words(out, apart.at_position, apart.step, b", ")?;
+    write_words(out, apart.at_position, apart.other, b"\n")
 }
 
 // Writes the words for what stands at a place of a list, and what stands behind them.

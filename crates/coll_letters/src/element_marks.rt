@@ -99,17 +99,11 @@ impl ElementMarks {
     pub fn same_front(&self, text: &str, other: &str) -> usize
         ensures { (k : ℕ) → k < result → IsSameAt self.now text.now other.now k }
     {
-        self.same_bytes(text.as_bytes(), other.as_bytes())
-    }
-
-    // The same, of their bytes.
-    #[inline(always)]
-    fn same_bytes(&self, text: &[u8], other: &[u8]) -> usize
-        ensures { (k : ℕ) → k < result → IsSameAt self.now text.now other.now k }
-    {
-        let shorter = text.len().min(other.len());
+        let bytes = text.as_bytes();
+        let others = other.as_bytes();
+        let shorter = bytes.len().min(others.len());
         for place in 0..shorter {
-            if !self.is_same_at(text, other, place) {
+            if !self.is_same_at(bytes, others, place) {
                 return place;
             }
         }
@@ -210,12 +204,10 @@ fn mark_string(marks: &mut ElementMarks, text: &str) -> Result<(), AllocError>
         return Ok(());
     };
     let Some((second, _)) = split_first_char(rest) else {
-        raise(&mut marks.firsts, first, WHOLE)?;
-        return Ok(());
+        return raise(&mut marks.firsts, first, WHOLE);
     };
     raise(&mut marks.firsts, first, BEGINS)?;
-    raise(&mut marks.seconds, second, BEGINS)?;
-    Ok(())
+    raise(&mut marks.seconds, second, BEGINS)
 }
 
 // Gives a character a mark, unless it has a greater one.
@@ -227,6 +219,5 @@ fn raise(marks: &mut CodePoints, letter: char, mark: u32) -> Result<(), AllocErr
     if had >= mark {
         return Ok(());
     }
-    marks.set(letter, mark)?;
-    Ok(())
+    marks.set(letter, mark)
 }

@@ -98,6 +98,10 @@ take_front zero (listed ∷ list) rest same = absurd (omega (arith, same))
 take_front (suc len) [] rest same = absurd (omega (arith, same))
 take_front (suc len) (listed ∷ list) rest same = ap (λ (l : List ListedWord). listed ∷ l) (take_front len list rest (omega (arith, same)))
 
+-- a list that is led where it stands
+pub led_in_place : (len : ℕ) (list led rest : List ListedWord) → led ≡ led_by 0 list → len ≡ length list → take len (led ++ rest) ≡ led_by 0 list
+led_in_place len list led rest is long = take_front len led rest (ap (λ (l : List ListedWord). length l) is ∙ length_led 0 list ∙ sym long) ∙ is
+
 -- fewer than two words are in order
 pub few_in_order : (table : Collation) (list : List ListedWord) → length list < 2 → IsSorted (line_order table) (all_numbered list)
 few_in_order table list few = λ k d low high. absurd (omega (arith, few, high, length-map list numbered_of))

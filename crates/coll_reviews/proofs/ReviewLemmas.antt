@@ -1,7 +1,7 @@
 -- Where statements lead a review, and what it writes then.
-use Rattle.std.proofs.Common.{◌≡◌, ℕ, suc, ◌+◌, ◌<◌, ◌≤◌, ◌==◌, Bool, true, false, if◌then◌else◌, List, [], ◌∷◌, ◌++◌, length, map, take, Result, Ok, Err}
+use Rattle.std.proofs.Common.{◌≡◌, ℕ, suc, ◌+◌, ◌<◌, ◌≤◌, ◌==◌, Bool, true, false, if◌then◌else◌, List, [], ◌∷◌, ◌++◌, length, map, take, Option, Some, None, Result, Ok, Err}
 use Rattle.std.proofs.Common.{refl, sym, ap, subst, ◌∙◌, arith, append-nil, append_assoc}
-use Rattle.std.specs.Prelude.{All, filter}
+use Rattle.std.specs.Prelude.{All, IfSome, filter}
 use Rattle.std.specs.List.{flat_map}
 use Rattle.std.specs.List.Sorted.{IsPermutation, IsSorted}
 use Rattle.std.proofs.lemmas.Bool.{ne_eqb, eqb-true}
@@ -43,10 +43,16 @@ keyed_lines table list keyed = λ k d within.
     (keyed k d.word (omega (arith, within, length-map list (λ (keyed : KeyedLine). keyed.word))))
 
 -- words that were numbered, and then sorted
-pub sorts_listed : (words : List KeyedWord) (lines : List KeyedLine) (list : List NumberedWord) → map keyed_line lines ≡ numbered_from 1 (texts_of words)
+sorts_listed : (words : List KeyedWord) (lines : List KeyedLine) (list : List NumberedWord) → map keyed_line lines ≡ numbered_from 1 (texts_of words)
     → map (λ (keyed : KeyedLine). keyed.word) lines ≡ words → SortsLines lines list → SortsListed words list
 sorts_listed words lines list numbers same sorts = λ table well keyed.
     subst (λ (l : List NumberedWord). AreInOrder table l list) numbers (sorts table well (keyed_lines table lines (subst (AreKeyed table) (sym same) keyed)))
+
+-- the same where memory may have been refused
+pub sorts_some : {X : Type 0} (kept : Option X) (list_of : X → List NumberedWord) (words : List KeyedWord) (lines : List KeyedLine) → map keyed_line lines ≡ numbered_from 1 (texts_of words)
+    → map (λ (keyed : KeyedLine). keyed.word) lines ≡ words → IfSome kept (λ some. SortsLines lines (list_of some)) → IfSome kept (λ some. SortsListed words (list_of some))
+sorts_some (Some some) list_of words lines numbers same sorts = sorts_listed words lines (list_of some) numbers same sorts
+sorts_some None list_of words lines numbers same sorts = tt
 
 -- words that were sorted by their keys, and then kept
 pub sorts_lines : (lines sorted : List KeyedLine) (list : List NumberedWord) → IsPermutation lines sorted

@@ -1,14 +1,22 @@
 -- A list is sorted again, and anew.
-use Rattle.std.proofs.Common.{◌≡◌, zero, List, ◌++◌, subst}
+use Rattle.std.proofs.Common.{◌≡◌, zero, List, ◌++◌, reverse, sym, subst}
 use Rattle.std.specs.Prelude.{OnOk, Result, Ok, Err}
 use Rattle.std.specs.List.Sorted.{IsPermutation, IsSorted}
-use Rattle.std.proofs.lemmas.List.Sorted.{IsPermutation-refl, IsPermutation-trans, IsPermutation-append_right}
+use Rattle.std.proofs.lemmas.List.{reverse-reverse}
+use Rattle.std.proofs.lemmas.List.Sorted.{IsPermutation-refl, IsPermutation-reverse, IsPermutation-trans, IsPermutation-append_right}
 use Rattle.coll_nodes.specs.Table.{Collation}
 use Rattle.coll_key.specs.declared.key_faults.KeyFault.{KeyFault}
 use Rattle.coll_reviews.specs.ListedWords.{IsSortedAgain, IsSortedAnew, all_numbered, led_by}
 use Rattle.coll_reviews.specs.MovedWords.{IsSortedFromLast, StandInOrder}
 use Rattle.coll_word_lists.specs.NumberedWords.{line_order}
 use Rattle.coll_reviews.specs.declared.listed_words.ListedWord.{ListedWord}
+
+-- words that were sorted, and turned round
+pub from_last : (table : Collation) (old sorted new : List ListedWord) → IsSortedAgain table old sorted → new ≡ reverse sorted → IsSortedFromLast table old new
+from_last table old sorted new sorts is = record {
+  moved = subst (IsPermutation old) (sym is) (IsPermutation-trans old sorted (reverse sorted) sorts.moved (IsPermutation-reverse sorted));
+  ordered = subst (λ (l : List ListedWord). StandInOrder table (reverse l)) (sym is) (subst (StandInOrder table) (sym (reverse-reverse sorted)) sorts.ordered);
+}
 
 -- a list that was taken apart, of which some words were sorted, and both put together, which may lack memory
 pub again_put : (table : Collation) (old kept moved sorted new : List ListedWord) (r : Result (Unit {0}) KeyFault) → IsPermutation old (kept ++ moved)

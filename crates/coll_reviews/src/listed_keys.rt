@@ -10,6 +10,7 @@ ghost use Rattle.coll_nodes.specs.TableLayout.{collation};
 ghost use Rattle.coll_nodes.specs.WellFormed.{IsWellFormed};
 ghost use Rattle.coll_key.specs.SortKey.{key_of};
 ghost use Rattle.coll_reviews.specs.ListedKeys.{HaveKeys, word_of};
+ghost use Rattle.coll_reviews.specs.ListedWords.{IsSortedAgain};
 ghost use Rattle.coll_reviews.specs.MovedWords.{StandInOrder};
 ghost use Rattle.coll_word_lists.specs.PackedKeys.{packed_key};
 ghost use Rattle.coll_reviews.specs.WordOrders.{Serves};
@@ -38,8 +39,7 @@ pub(crate) fn sort_with_keys(
     list: &mut Vec<ListedWord<'_>>,
 ) -> Result<(), KeyFault>
     requires { Serves order.now table.now }
-    ensures same { OnOk result (IsPermutation list.old.items list.new.items) }
-    ensures sorted { OnOk result (StandInOrder (collation table.now) list.new.items) }
+    ensures { OnOk result (IsSortedAgain (collation table.now) list.old.items list.new.items) }
 {
     let mut keyed = with_keys(alloc, table, order, list)?;
     table.lemma_well_formed();

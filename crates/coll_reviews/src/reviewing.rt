@@ -105,16 +105,11 @@ fn sorted_list(alloc: Global, words: Vec<Word>) -> Option<Vec<KeptWord>>
     ensures { IfSome result (λ kept. SortsListed words.items (map kept_line kept.items)) }
 {
     match numbered(alloc, words) {
-        Ok(mut list) => match sorted_words(alloc, &mut list) {
-            Some(kept) => {
-                drop(list);
-                Some(kept)
-            }
-            None => {
-                drop(list);
-                None
-            }
-        },
+        Ok(mut list) => {
+            let kept = sorted_words(alloc, &mut list);
+            drop(list);
+            kept
+        }
         Err(_) => None,
     }
 }

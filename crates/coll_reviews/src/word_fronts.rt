@@ -73,7 +73,10 @@ impl<'a> WordFronts<'a> {
         let mut front = 0u128;
         let mut free = WORD_BITS;
         for letter in word.chars() {
-            let found = self.letter_front(letter);
+            let found = match self.fronts.get(self.places.get(letter) as usize) {
+                Some(front) => *front,
+                None => NOTHING,
+            };
             if found.count >= free {
                 return front | found.bits.wrapping_shr(found.count.wrapping_sub(free));
             }
@@ -81,14 +84,6 @@ impl<'a> WordFronts<'a> {
             front |= found.bits.wrapping_shl(free);
         }
         front
-    }
-
-    // The bits of a character.
-    fn letter_front(&self, letter: char) -> LetterFront {
-        match self.fronts.get(self.places.get(letter) as usize) {
-            Some(front) => *front,
-            None => NOTHING,
-        }
     }
 }
 

@@ -103,7 +103,8 @@ pub(crate) fn word_order<'a>(
     ensures marks { IfSome marks.new (AreMarks (collation table.now)) }
 {
     if let Some(taken) = look_at_letters(alloc, table, marks, &mut looks.letters, list)? {
-        let left = numbers_paid_for(table, looks.made_ranks);
+        let paid_for = table.len() / ENTRIES_A_KEY_NUMBER;
+        let left = paid_for.checked_shr(looks.made_ranks).unwrap_or(0);
         if let Some(letters) = &looks.letters {
             let order = letter_order(alloc, table, letters, taken, &mut looks.numbers, left)?;
             return Ok(WordOrder::ByLetters(order));
@@ -142,15 +143,6 @@ pub(crate) fn give_back(
             drop(marks.replace(weights.into_marks()));
             were_made
         }
-    }
-}
-
-// How many numbers and look-ups are paid for in keys behind a statement, where ranks were made after keys behind so many.
-fn numbers_paid_for(table: &Table, made_ranks: u32) -> usize {
-    let paid = table.len() / ENTRIES_A_KEY_NUMBER;
-    match paid.checked_shr(made_ranks) {
-        Some(left) => left,
-        None => 0,
     }
 }
 
@@ -193,7 +185,7 @@ fn look_at_letters(
         AreMarks (collation table.now) marks × IfSome kept.new (MayServe (collation table.now)))) }
     ensures marks { IfSome marks.new (AreMarks (collation table.now)) }
 {
-    if are_incomplete(kept) {
+    if matches!(kept, Some(letters) if !letters.all) {
         return Ok(None);
     }
     let taken = taken_marks(alloc, table, marks)?;
@@ -217,7 +209,10 @@ fn taken_marks(
 {
     match marks.take() {
         Some(taken) => Ok(taken),
-        None => ElementMarks::of(alloc, table),
+        none => {
+            drop(none);
+            ElementMarks::of(alloc, table)
+        }
     }
 }
 
@@ -229,54 +224,24 @@ fn gather(
     marks: &ElementMarks,
     list: &[ListedWord<'_>],
 ) -> Result<(), AllocError> {
-    if are_of(kept, marks) {
-        return Ok(());
-    }
-    let times = times_gathered(kept);
+    let times = match kept {
+        Some(letters) if letters.elements == marks.count() => return Ok(()),
+        Some(letters) => letters.times,
+        None => 0,
+    };
     let most_joined = table.len() / ENTRIES_A_JOINED_BYTE;
     let letters = Letters::of(alloc, list, marks, most_letters(table), most_joined, times)?;
     drop(kept.replace(letters));
     Ok(())
 }
 
-// Whether characters were gathered, and one was left out.
-fn are_incomplete(kept: &Option<Letters>) -> bool {
-    match kept {
-        Some(letters) => !letters.all,
-        None => false,
-    }
-}
-
-// How often characters were gathered.
-fn times_gathered(kept: &Option<Letters>) -> u32 {
-    match kept {
-        Some(letters) => letters.times,
-        None => 0,
-    }
-}
-
-// Whether characters were gathered while as many elements were declared as have these marks.
-fn are_of(kept: &Option<Letters>, marks: &ElementMarks) -> bool {
-    match kept {
-        Some(letters) => letters.elements == marks.count(),
-        None => false,
-    }
-}
-
 // Whether characters were gathered, none was left out, and they hold no element by these marks.
 fn are_apart(kept: &Option<Letters>, marks: &ElementMarks) -> bool
     ensures { result ≡ true → IfSome kept.now (AreApart marks.now) }
 {
-    match kept {
-        Some(letters) => serve(letters, marks),
-        None => false,
-    }
-}
-
-// The same of characters that were gathered.
-fn serve(letters: &Letters, marks: &ElementMarks) -> bool
-    ensures { result ≡ true → AreApart marks.now letters.now }
-{
+    let Some(letters) = kept else {
+        return false;
+    };
     if !letters.all {
         return false;
     }
@@ -302,33 +267,19 @@ pub(crate) fn order_of_words(
 {
     match order {
         WordOrder::ByRanks(ranks) => compare(alloc, table, ranks, text, other),
-        WordOrder::ByLetters(letters) => order_by_letters(alloc, table, letters, text, other),
+        WordOrder::ByLetters(letters) => match letters
+            .weights
+            .first_order(table, letters.places, text, other)
+        {
+            FirstOrder::Told(order) => Ok(order),
+            FirstOrder::Untold(seen) => {
+                order_beyond_first(alloc, table, letters, text, other, seen)
+            }
+        },
     }
 }
 
-// The same, by the rows of characters.
-#[inline(always)]
-fn order_by_letters(
-    alloc: Global,
-    table: &Table,
-    letters: &mut LetterOrder<'_>,
-    text: &str,
-    other: &str,
-) -> Result<Ordering, KeyFault>
-    requires { Serves (ByLetters letters.old) table.now }
-    ensures order { IfOk result (λ order. order ≡ order_of (collation table.now) (chars text.now) (chars other.now)) }
-    ensures serves { Serves (ByLetters letters.new) table.now }
-{
-    match letters
-        .weights
-        .first_order(table, letters.places, text, other)
-    {
-        FirstOrder::Told(order) => Ok(order),
-        FirstOrder::Untold(seen) => order_beyond_first(alloc, table, letters, text, other, seen),
-    }
-}
-
-// The same, where single numbers don't tell it, but this was seen.
+// The same by the rows of characters, where single numbers don't tell it, but this was seen.
 #[inline(never)]
 fn order_beyond_first(
     alloc: Global,
@@ -373,7 +324,7 @@ fn order_by_new_ranks(
 {
     let ranks = Ranks::new(alloc, table)?;
     let order = compare(alloc, table, &ranks, text, other);
-    letters.ranks = Some(ranks);
+    drop(letters.ranks.replace(ranks));
     order
 }
 
@@ -448,7 +399,7 @@ pub(crate) fn key_of_word(
     }
 }
 
-// The same, by the rows of characters.
+// The same, by the rows of characters, unless the word may hold an element.
 fn key_by_letters(
     alloc: Global,
     table: &Table,
@@ -460,22 +411,9 @@ fn key_by_letters(
 {
     match letters.weights.key(alloc, table, letters.places, text)? {
         Some(key) => Ok(key),
-        None => key_of_joined(alloc, table, letters, text),
-    }
-}
-
-// The same of a word that may hold an element.
-fn key_of_joined(
-    alloc: Global,
-    table: &Table,
-    letters: &LetterOrder<'_>,
-    text: &str,
-) -> Result<Vec<u64>, KeyFault>
-    requires { Serves (ByLetters letters.now) table.now }
-    ensures { IfOk result (λ key. key.items ≡ key_of (collation table.now) (chars text.now)) }
-{
-    match &letters.ranks {
-        Some(ranks) => key(alloc, table, ranks, text),
-        None => key_of_text(alloc, table, letters.numbers, text),
+        None => match &letters.ranks {
+            Some(ranks) => key(alloc, table, ranks, text),
+            None => key_of_text(alloc, table, letters.numbers, text),
+        },
     }
 }

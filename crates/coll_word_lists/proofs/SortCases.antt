@@ -1,14 +1,16 @@
 -- How a sort ends, by what reading its words and writing them answered.
-use Rattle.std.proofs.Common.{◌≡◌, inl, inr, ⊎_elim, ℕ, Bool, if◌then◌else◌, List, [], ◌∷◌, ◌++◌, Option, Some, None, Result, Ok, Err, refl, sym, ap, ◌∙◌, subst, append-nil}
+use Rattle.std.proofs.Common.{◌≡◌, inl, inr, ⊎_elim, ℕ, Bool, if◌then◌else◌, List, [], ◌∷◌, ◌++◌, Option, Some, None, Result, Ok, Err, refl, sym, ap, ◌∙◌, subst, append-nil, ◌+◌, ◌<◌, ◌≤◌, drop, get_or, length}
 use Rattle.std.specs.Prelude.{IfErr}
 use Rattle.std.specs.Io.KnownBytes.{Appends}
 use Rattle.std.specs.List.{flat_map}
+use Rattle.std.proofs.lemmas.List.{drop_all}
 use Rattle.coll_devices.specs.Devices.{AppendsPrefix, Sends, raised}
 use Rattle.coll_nodes.specs.Table.{Collation}
 use Rattle.coll_bench.specs.BatchReading.{starved_in}
 use Rattle.coll_bench.specs.BatchRuns.{Ending, ReadFailed, WriteFailed, Starved, Refused, ending_of}
 use Rattle.coll_bench.specs.Serving.{ReadsNone, write_failed}
 use Rattle.coll_faults.specs.declared.faults.RunFault.{RunFault}
+use Rattle.coll_texts.proofs.PrintedParts.{HasWritten, left_begins, written_prefix, written_more, written_all}
 use Rattle.coll_word_lists.specs.KeyedWords.{KeyedWord, texts_of}
 use Rattle.coll_word_lists.specs.SortRuns.{SortsText, SortRanTo, SortRuns, WritesSorted}
 use Rattle.coll_word_lists.specs.SortedWords.{AreSorted}
@@ -24,6 +26,25 @@ line_of word = written_word word.text
 pub written_texts : (words : List KeyedWord) → written_words (texts_of words) ≡ flat_map line_of words
 written_texts [] = refl
 written_texts (word ∷ words) = ap (λ (bytes : List ℕ). written_word word.text ++ bytes) (written_texts words)
+
+module _ (words : List KeyedWord) (index : ℕ) (start now : Option (List ℕ)) (so_far : HasWritten line_of words (drop index words) start now) where
+  -- a write fails within the next word
+  pub word_stops : (word : KeyedWord) → index < length words → word ≡ get_or words index word → (new : Option (List ℕ)) → AppendsPrefix now new (line_of word)
+      → AppendsPrefix start new (written_words (texts_of words))
+  word_stops word within is new prefix =
+      subst (AppendsPrefix start new) (sym (written_texts words))
+      (written_prefix line_of words (drop index words) (drop (index + 1) words) word start now new (left_begins words index word within is) so_far prefix)
+
+  -- the next word is written
+  pub word_more : (word : KeyedWord) → index < length words → word ≡ get_or words index word → (new : Option (List ℕ)) → Appends now new (line_of word)
+      → HasWritten line_of words (drop (index + 1) words) start new
+  word_more word within is new more =
+      written_more line_of words (drop index words) (drop (index + 1) words) word start now new (left_begins words index word within is) so_far more
+
+  -- or there is none
+  pub words_end : length words ≤ index → Appends start now (written_words (texts_of words))
+  words_end over =
+      subst (Appends start now) (sym (written_texts words)) (written_all line_of words (drop index words) start now (drop_all index words over) so_far)
 
 -- texts that were sorted are written
 pub writes : (table : Collation) (texts sorted : List (List ℕ)) (taken taken_after : Option (List ℕ)) (r : Result (Unit {0}) RunFault)

@@ -46,7 +46,7 @@ pub fn read_words<R: Source>(
 {
     match Ranks::new(alloc, table) {
         Ok(ranks) => {
-            let read = read_listed_words(alloc, table, &ranks, input);
+            let read = read_by_ranks(alloc, table, &ranks, input);
             drop(ranks);
             read
         }
@@ -54,8 +54,8 @@ pub fn read_words<R: Source>(
     }
 }
 
-// Reads the words of an input, by the ranks of the table, into a list.
-fn read_listed_words<R: Source>(
+// Reads the words of an input, by the ranks of the table.
+fn read_by_ranks<R: Source>(
     alloc: Global,
     table: &Table,
     ranks: &Ranks,
@@ -69,38 +69,18 @@ fn read_listed_words<R: Source>(
     ensures writes { IfErr result (λ ended. WritesNone ended) }
     ensures reads { CountsReading (R.failed input.old) (R.failed input.new) result }
 {
-    let mut words = Vec::new(alloc);
-    match read_by_ranks(alloc, table, ranks, input, &mut words) {
-        Ok(()) => Ok(words),
-        Err(ended) => {
-            drop(words);
-            Err(ended)
-        }
-    }
-}
-
-// Reads the words of an input, by the ranks of the table, and puts them where there are none.
-fn read_by_ranks<R: Source>(
-    alloc: Global,
-    table: &Table,
-    ranks: &Ranks,
-    input: &mut R,
-    words: &mut Vec<Word>,
-) -> Result<(), RunFault>
-    requires ranks { AreRanksOf ranks.now (collation table.now) }
-    requires none { words.old.items ≡ [] }
-    ensures words { OnOk result (AreWordsOf (R.left input.old) words.new.items) }
-    ensures fault { IfErr result (λ ended. ReadingFails (R.left input.old) (R.left input.new) ended) }
-    ensures keyed { OnOk result (AreKeyed (collation table.now) words.new.items) }
-    ensures input { IfErr result (λ ended. ended.input ≡ 0) }
-    ensures writes { IfErr result (λ ended. WritesNone ended) }
-    ensures reads { CountsReading (R.failed input.old) (R.failed input.new) result }
-{
     match LineReader::new(alloc) {
         Ok(mut reader) => {
-            let read = read_lines(alloc, table, ranks, &mut reader, input, words);
+            let mut words = Vec::new(alloc);
+            let read = read_lines(alloc, table, ranks, &mut reader, input, &mut words);
             drop(reader);
-            read
+            match read {
+                Ok(()) => Ok(words),
+                Err(ended) => {
+                    drop(words);
+                    Err(ended)
+                }
+            }
         }
         Err(_) => Err(no_memory(0)),
     }

@@ -262,17 +262,10 @@ fn packed_single(at_level: LevelWeights<'_>, row: ElementRow) -> u32
 {
     match at_level.ranks(row) {
         WeightRanks::Ignored => 0,
-        WeightRanks::Single(rank) => short_or_none(number_of(rank, at_level.added(row))),
+        WeightRanks::Single(rank) => match short_number(number_of(rank, at_level.added(row))) {
+            Some(short) => short,
+            None => 0,
+        },
         WeightRanks::Several(_) => 0,
-    }
-}
-
-// What a number is packed as, where that is one number; else 0.
-fn short_or_none(number: u64) -> u32
-    ensures { 0 < result → packed_key (number ∷ []) ≡ result ∷ [] }
-{
-    match short_number(number) {
-        Some(short) => short,
-        None => 0,
     }
 }

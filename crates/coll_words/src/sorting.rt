@@ -5,16 +5,14 @@
 //! keys.
 
 ghost use Rattle.std.specs.Prelude.{◌≡◌, IfErr, IfOk};
-ghost use Rattle.coll_devices.specs.Devices.{Sends};
 ghost use Rattle.coll_nodes.specs.TableLayout.{collation};
-ghost use Rattle.coll_bench.specs.Serving.{CountsWrites, ReadsNone, write_failed};
+ghost use Rattle.coll_bench.specs.Serving.{CountsWrites, ReadsNone};
 ghost use Rattle.coll_words.specs.FirstKeys.{AreFirstKeyed};
 ghost use Rattle.coll_word_lists.specs.KeyedWords.{texts_of};
 ghost use Rattle.coll_words.specs.SortKeys.{Give};
 ghost use Rattle.coll_word_lists.specs.SortRuns.{SortRuns, WritesSorted};
 ghost use Rattle.coll_word_lists.specs.SortedWords.{AreSorted};
 ghost use Rattle.coll_word_lists.specs.WordReading.{CountsReading};
-ghost use Rattle.coll_word_lists.specs.Words.{written_words};
 
 use crate::lent_words::{LentWord, sort_lent_words, write_lent_words};
 use crate::sort_keys::SortKeys;
@@ -118,9 +116,12 @@ fn write_sorted<W: Sink>(
 {
     match sorted(alloc, table, by, words) {
         Ok(lent) => {
-            let wrote = write_all(&lent, output);
+            let wrote = write_lent_words(&lent, output);
             drop(lent);
-            wrote
+            match wrote {
+                Ok(()) => Ok(()),
+                Err(_) => Err(fault_at(0, Fault::Write(WriteStop::WriteFault))),
+            }
         }
         // For lack of memory: no line is long enough to have a word without a key.
         Err(_) => Err(no_memory(0)),
@@ -143,16 +144,4 @@ fn sorted<'a>(
     sort_lent_words(&mut lent)?;
     sort_ties(alloc, table, by, &mut lent)?;
     Ok(lent)
-}
-
-// Writes words that are sorted.
-fn write_all<W: Sink>(words: &[LentWord<'_>], output: &mut W) -> Result<(), RunFault>
-    ensures sent { Sends (W.taken output.old) (W.taken output.new) (written_words (texts_of words.now)) result }
-    ensures fault { IfErr result (λ ended. ended ≡ write_failed) }
-    ensures writes { CountsWrites (W.failed output.old) (W.failed output.new) result }
-{
-    match write_lent_words(words, output) {
-        Ok(()) => Ok(()),
-        Err(_) => Err(fault_at(0, Fault::Write(WriteStop::WriteFault))),
-    }
 }

@@ -74,28 +74,17 @@ impl<'a> StoredWords<'a> {
     pub fn lend(&self, alloc: Global) -> Result<Vec<LentWord<'_>>, AllocError>
         ensures { IfOk result (λ words. AreLent self.now words.items) }
     {
-        if are_in_order(&self.keys, &self.places) {
-            return self.lend_plainly(alloc);
+        let keys: &[u32] = &self.keys;
+        let places: &[WordPlace] = &self.places;
+        if !are_in_order(keys, places) {
+            let digits = LeadDigits::of(alloc, keys)?;
+            let led = led_at(alloc, &digits, self.texts, keys, places);
+            drop(digits);
+            if let Some(words) = led? {
+                return Ok(words);
+            }
         }
-        match self.lend_led(alloc)? {
-            Some(words) => Ok(words),
-            None => self.lend_plainly(alloc),
-        }
-    }
-
-    // Lends the words with the lead 0.
-    fn lend_plainly(&self, alloc: Global) -> Result<Vec<LentWord<'_>>, AllocError>
-        ensures { IfOk result (λ words. AreLent self.now words.items) }
-    {
-        lent_plainly(alloc, self.texts, &self.keys, &self.places)
-    }
-
-    // Lends the words with their leads, if each number has a digit.
-    fn lend_led(&self, alloc: Global) -> Result<Option<Vec<LentWord<'_>>>, AllocError>
-        ensures { IfOk result (λ found. IfSome found (λ words. AreLent self.now words.items)) }
-    {
-        let digits = LeadDigits::of(alloc, &self.keys)?;
-        led_at(alloc, &digits, self.texts, &self.keys, &self.places)
+        lent_plainly(alloc, self.texts, keys, places)
     }
 }
 

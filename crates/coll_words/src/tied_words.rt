@@ -7,7 +7,7 @@ ghost use Rattle.std.specs.Prelude.{◌≡◌, ◌≢◌, ◌<◌, ◌≤◌, �
 ghost use Rattle.std.specs.List.Sorted.{IsSortedBy};
 ghost use Rattle.std.specs.Str.{IsUtf8};
 ghost use Rattle.coll_nodes.specs.TableLayout.{collation};
-ghost use Rattle.coll_word_lists.specs.KeyedWords.{AreKeyed, AreSortedByKeys, has_less_key, texts_of};
+ghost use Rattle.coll_word_lists.specs.KeyedWords.{AreKeyed, has_less_key, texts_of};
 ghost use Rattle.coll_words.specs.LentWords.{AreLedFirst};
 ghost use Rattle.coll_words.specs.SortKeys.{Give};
 ghost use Rattle.coll_word_lists.specs.SortedWords.{AreSorted};
@@ -18,7 +18,7 @@ use crate::sort_keys::SortKeys;
 use coll_key::KeyFault;
 use coll_table::Table;
 use coll_word_lists::{packed_key, text_of};
-use std::alloc::{AllocError, Global};
+use std::alloc::Global;
 use std::marker::Model;
 
 /// A text with its whole key.
@@ -145,7 +145,7 @@ fn are_same(words: &[LentWord<'_>]) -> bool
     true
 }
 
-// The texts of words, with their keys by a table, sorted by these.
+// The texts of words, with their keys by a table, sorted by these. Those with equal keys keep their order.
 fn sorted_run<'a>(
     alloc: Global,
     table: &Table,
@@ -157,7 +157,7 @@ fn sorted_run<'a>(
 {
     table.lemma_well_formed();
     let mut tied = tied_words(alloc, table, by, run)?;
-    sort_tied(&mut tied)?;
+    tied.sort_by(|word, other| word.key.cmp(&other.key))?;
     Ok(tied)
 }
 
@@ -178,14 +178,6 @@ fn tied_words<'a>(
         tied.push(word)?;
     }
     Ok(tied)
-}
-
-// Sorts texts by their keys. Those with equal keys keep their order.
-fn sort_tied(tied: &mut Vec<TiedWord<'_>>) -> Result<(), AllocError>
-    ensures { OnOk result (AreSortedByKeys tied.old.items tied.new.items) }
-{
-    tied.sort_by(|word, other| word.key.cmp(&other.key))?;
-    Ok(())
 }
 
 // Gives words the texts of others, in their order.

@@ -1,5 +1,5 @@
 -- Nothing was taken yet.
-use Rattle.std.proofs.Common.{◌≡◌, ◌∙◌, ℕ, List, length, true, ap, sym, arith}
+use Rattle.std.proofs.Common.{◌∙◌, ℕ, List, length, true, ap, arith}
 use Rattle.coll_syntax.specs.declared.rules.Rule.{Rule}
 use Rattle.coll_ranks.specs.LevelWeights.{level_numbers}
 use Rattle.coll_key.specs.LevelList.{level_list, listed}

@@ -1,8 +1,9 @@
 -- The words are numbered, and then sorted.
 use Rattle.std.proofs.Common.{map}
 use Rattle.coll_reviews.specs.KeptWords.{kept_line}
-use Rattle.coll_reviews.proofs.ReviewLemmas.{sorts_listed}
+use Rattle.coll_reviews.proofs.ReviewLemmas.{sorts_some}
 use Rattle.coll_reviews.proofs.reviewing.sorted_list.Goals as goal
 
-pub returns-in-Some : goal.returns-in-Some
-returns-in-Some c = sorts_listed c.args.words.items c.in-Ok.list.items (map kept_line c.in-Some.kept.items) c.in-Ok.ensures.lines c.in-Ok.ensures.words c.in-Some.ensures
+pub returns-in-Ok : goal.returns-in-Ok
+returns-in-Ok c =
+    sorts_some c.sorted_words-kept.result (λ kept. map kept_line kept.items) c.args.words.items c.in-Ok.list.items c.in-Ok.ensures.lines c.in-Ok.ensures.words c.sorted_words-kept.ensures

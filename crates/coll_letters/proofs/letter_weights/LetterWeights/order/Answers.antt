@@ -1,11 +1,17 @@
--- The first level that decides is the order, and where none does it is `Equal`.
-use Rattle.std.proofs.Common.{◌∙◌, chars, sym}
+-- The first level that decides is the order, and where none does, or the texts are the same, it is `Equal`.
+use Rattle.std.proofs.Common.{◌∙◌, ap, chars, sym}
+use Rattle.std.proofs.lemmas.Slice.Eq.{bytes_eq-Decides}
 use Rattle.coll_nodes.specs.TableLayout.{collation}
 use Rattle.coll_elements.specs.Elements.{elements_of}
 use Rattle.coll_ranks.specs.WeightNumbers.{numbers_at}
 use Rattle.coll_key.proofs.OrderLemmas.{order_undecided}
-use Rattle.coll_letters.proofs.LetterLemmas.{found_decides, found_goes_on, order_by_levels}
+use Rattle.coll_letters.proofs.LetterLemmas.{found_decides, found_goes_on, order_by_levels, same_texts}
 use Rattle.coll_letters.proofs.letter_weights.LetterWeights.order.Goals as goal
+
+pub returns-then-eq : goal.returns-then-eq
+returns-then-eq c =
+    same_texts (collation c.args.table.now) c.lemma_well_formed.ensures.well_formed (chars c.args.text.now) (chars c.args.other.now)
+    (ap chars ((bytes_eq-Decides c.args.text.now c.args.other.now).0 (sym c.eq.ensures ∙ c.if-eq.true)))
 
 pub loop-level-preserved : goal.loop-level-preserved
 loop-level-preserved c =

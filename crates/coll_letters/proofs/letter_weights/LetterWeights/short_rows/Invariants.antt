@@ -5,7 +5,7 @@ use denote.Text.{Utf8}
 use Rattle.coll_nodes.specs.TableLayout.{collation}
 use Rattle.coll_ranks.specs.LevelWeights.{row_numbers}
 use Rattle.coll_letters.specs.LetterWeights.{text_numbers}
-use Rattle.coll_letters.proofs.letter_weights.LetterWeights.rows_of.Given as goal
+use Rattle.coll_letters.proofs.letter_weights.LetterWeights.short_rows.Given as goal
 
 abbrev pub invariant-letters : goal.invariant-letters
 invariant-letters l = record {

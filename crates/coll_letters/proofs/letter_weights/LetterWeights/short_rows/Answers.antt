@@ -6,7 +6,7 @@ use Rattle.coll_ranks.specs.LevelWeights.{row_numbers}
 use Rattle.coll_letters.proofs.LetterLemmas.{no_numbers, one_row_more}
 use Rattle.std.proofs.lemmas.Bool.{eqb-true}
 use Rattle.std.proofs.lemmas.List.{nil_from_length}
-use Rattle.coll_letters.proofs.letter_weights.LetterWeights.rows_of.Goals as goal
+use Rattle.coll_letters.proofs.letter_weights.LetterWeights.short_rows.Goals as goal
 
 pub letters-preserved : goal.letters-preserved
 letters-preserved c = record {
