@@ -43,11 +43,10 @@ impl Output {
     /// The text that is written.
     pub fn text(&self, rt: &impl Abort, alloc: Global) -> Vec<u8> {
         let mut text = Vec::new(alloc);
-        let pushed = match self {
-            Output::Lines(lines) => push_lines(&mut text, lines),
-            Output::Base(change) => change.push(&mut text, BASE_TABLE),
-        };
-        pushed.expect(rt, "the output");
+        match self {
+            Output::Lines(lines) => push_lines(rt, &mut text, lines),
+            Output::Base(change) => change.push(rt, &mut text, BASE_TABLE),
+        }
         text
     }
 }

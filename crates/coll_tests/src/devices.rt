@@ -95,11 +95,6 @@ pub struct ShortReader<'a> {
 }
 
 impl<'a> ShortReader<'a> {
-    /// A reader that gives at most three bytes per read, and fails at its n-th one, counted from 1.
-    pub fn new(text: &'a [u8], fails_at: usize) -> Self {
-        ShortReader::scripted(text, Script::ButFor(fails_at, Step::Error))
-    }
-
     /// A reader that does what a script says.
     pub fn scripted(text: &'a [u8], script: Script) -> Self {
         ShortReader {

@@ -43,20 +43,12 @@ impl Reader {
     }
 }
 
-fn assert_load(rt: &impl Abort, alloc: Global, reader: &Reader) {
-    let fault = load(alloc, &mut reader.open(b""))
-        .err()
-        .expect(rt, "a fault");
-    assert_same(rt, "a load's line", fault.line, reader.line);
-    assert_same(rt, "a load's fault", fault.number(), reader.number);
-}
-
 // Asserts the fault of a run.
 fn assert_ended(rt: &impl Abort, answer: Result<(), RunFault>, input: usize, reader: &Reader) {
     let ended = answer.err().expect(rt, "a fault");
-    assert_same(rt, "a run's input", ended.input, input);
-    assert_same(rt, "a run's line", ended.line, reader.line);
-    assert_same(rt, "a run's fault", ended.fault.number(), reader.number);
+    let given = (ended.input, ended.line, ended.fault.number());
+    let wanted = (input, reader.line, reader.number);
+    assert_same(rt, "the input, line and fault of a run", given, wanted);
 }
 
 fn assert_session(rt: &impl Abort, alloc: Global, reader: &Reader) {
@@ -68,37 +60,36 @@ fn assert_session(rt: &impl Abort, alloc: Global, reader: &Reader) {
     assert_text(rt, alloc, output.as_slice(), reader.reply);
 }
 
-// Asserts the fault of a batch with this reader as its table, and as its delta file. A reader isn't read behind the end of a table.
-fn assert_batch(rt: &impl Abort, alloc: Global, reader: &Reader, table: &[u8]) {
+// Asserts the fault of a batch with this reader behind a text as its table, and as its delta file, and in which of the two it is.
+fn assert_batch(rt: &impl Abort, alloc: Global, reader: &Reader, text: &[u8], input: usize) {
     let mut output = Vec::new(alloc);
     let mut taken = Counted::new(&mut output);
-    let mut deltas = [reader.open(b"")];
+    let mut table = reader.open(text);
+    let mut deltas = Vec::new(alloc);
+    deltas.push(reader.open(b"")).expect(rt, "room");
     let answer = run_batch(
         alloc,
         Batch::Check,
-        &mut reader.open(b""),
-        &mut deltas,
-        &mut taken,
-    );
-    assert_ended(rt, answer, 0, reader);
-    let answer = run_batch(
-        alloc,
-        Batch::Check,
-        &mut reader.open(table),
-        &mut deltas,
+        &mut table,
+        deltas.as_mut_slice(),
         &mut taken,
     );
     drop(taken);
-    assert_ended(rt, answer, 1, reader);
+    assert_ended(rt, answer, input, reader);
     assert_same(rt, "the output", output.len(), 0);
 }
 
 #[test]
 fn a_reader_that_never_ends_is_refused(rt: HostRuntime) {
-    let table = text_of(rt.alloc(), BASE_TABLE).expect(&rt, "a table");
+    let table = text_of(&rt, rt.alloc(), BASE_TABLE);
     for reader in READERS {
-        assert_load(&rt, rt.alloc(), reader);
+        let fault = load(rt.alloc(), &mut reader.open(b"")).err();
+        let fault = fault.expect(&rt, "a fault");
+        assert_same(&rt, "a load's line", fault.line, reader.line);
+        assert_same(&rt, "a load's fault", fault.number(), reader.number);
         assert_session(&rt, rt.alloc(), reader);
-        assert_batch(&rt, rt.alloc(), reader, &table);
+        assert_batch(&rt, rt.alloc(), reader, b"", 0);
+        // A reader isn't read behind the end of a table.
+        assert_batch(&rt, rt.alloc(), reader, &table, 1);
     }
 }

@@ -10,13 +10,13 @@ mod delta_lines;
 mod table_lines;
 
 use crate::assertions::{assert_same, assert_that, past, past_char, past_name};
-use coll_lex::{Lexer, Line, TextBuf};
+use coll_lex::{Lexer, Line};
 use coll_syntax::{Id, OrderLine, Rule, Weight};
 use std::alloc::Global;
 use std::process::Abort;
 
-/// The one logical line of a text.
-pub fn line_of(rt: &impl Abort, alloc: Global, text: &str) -> Line
+// The one logical line of a text.
+fn line_of(rt: &impl Abort, alloc: Global, text: &str) -> Line
     ensures { AreTokens result.tokens }
 {
     let mut lexer = Lexer::new(alloc).expect(rt, "a lexer");
@@ -42,7 +42,7 @@ pub fn assert_rows(rt: &impl Abort, alloc: Global, place: Place, rows: &str) {
     }
 }
 
-// Asserts what a line says in this place.
+// Asserts what the one logical line of a text says in this place.
 fn assert_said(rt: &impl Abort, alloc: Global, place: Place, text: &str, wanted: &str) {
     let line = line_of(rt, alloc, text);
     let rest = match place {
@@ -53,21 +53,27 @@ fn assert_said(rt: &impl Abort, alloc: Global, place: Place, text: &str, wanted:
     drop(line);
 }
 
-// What is left of a wanted text behind a keyword and a name.
-fn past_named<'a>(rt: &impl Abort, wanted: &'a str, keyword: &str, name: &TextBuf) -> &'a str {
-    past_name(rt, past(rt, wanted, keyword), name.get())
+/// What is left of a wanted text behind a keyword and a name.
+pub fn past_named<'a>(rt: &impl Abort, wanted: &'a str, keyword: &str, name: &str) -> &'a str {
+    past_name(rt, past(rt, wanted, keyword), name)
 }
 
-// .. behind a collating element, with its characters.
-fn past_element<'a>(rt: &impl Abort, wanted: &'a str, name: &TextBuf, text: &TextBuf) -> &'a str {
+/// .. behind a keyword and two names.
+pub fn past_two<'a>(
+    rt: &impl Abort,
+    wanted: &'a str,
+    keyword: &str,
+    name: &str,
+    other: &str,
+) -> &'a str {
+    let rest = past_named(rt, wanted, keyword, name);
+    past_name(rt, past(rt, rest, " "), other)
+}
+
+/// .. behind a collating element, with its characters.
+pub fn past_element<'a>(rt: &impl Abort, wanted: &'a str, name: &str, text: &str) -> &'a str {
     let rest = past_named(rt, wanted, "element ", name);
-    past(rt, past(rt, rest, " "), text.get())
-}
-
-// .. behind a second name and the name of its symbol.
-fn past_second<'a>(rt: &impl Abort, wanted: &'a str, name: &TextBuf, symbol: &TextBuf) -> &'a str {
-    let rest = past_named(rt, wanted, "second ", name);
-    past_name(rt, past(rt, rest, " "), symbol.get())
+    past(rt, past(rt, rest, " "), text)
 }
 
 /// What is left of a wanted text behind an identifier: a character as it is, a name between its brackets, or `UNDEFINED`.
@@ -79,8 +85,13 @@ pub fn past_id<'a>(rt: &impl Abort, wanted: &'a str, id: &Id) -> &'a str {
     }
 }
 
-// .. behind a list of identifiers, between parentheses.
-fn past_ids<'a>(rt: &impl Abort, wanted: &'a str, ids: &[Id]) -> &'a str {
+/// What is left of a wanted text behind a weight: `I` for `IGNORE`, `-` for the entry's own, and else identifiers between parentheses.
+pub fn past_weight<'a>(rt: &impl Abort, wanted: &'a str, weight: &Weight) -> &'a str {
+    let ids = match weight {
+        Weight::Ignore => return past(rt, wanted, "I"),
+        Weight::Own => return past(rt, wanted, "-"),
+        Weight::Names(ids) => ids.get(),
+    };
     let mut rest = past(rt, wanted, "(");
     for id in ids {
         rest = past_id(rt, rest, id);
@@ -88,65 +99,35 @@ fn past_ids<'a>(rt: &impl Abort, wanted: &'a str, ids: &[Id]) -> &'a str {
     past(rt, rest, ")")
 }
 
-/// What is left of a wanted text behind a weight: `I` for `IGNORE`, `-` for the entry's own.
-pub fn past_weight<'a>(rt: &impl Abort, wanted: &'a str, weight: &Weight) -> &'a str {
-    match weight {
-        Weight::Ignore => past(rt, wanted, "I"),
-        Weight::Own => past(rt, wanted, "-"),
-        Weight::Names(ids) => past_ids(rt, wanted, ids.get()),
-    }
-}
-
-// .. behind the copy of a weight, after a blank.
-fn past_copy<'a>(rt: &impl Abort, wanted: &'a str, weight: &Weight) -> &'a str {
-    let copy = weight.clone().expect(rt, wanted);
-    let rest = past_weight(rt, past(rt, wanted, " "), &copy);
-    drop(copy);
-    rest
-}
-
-// .. behind the copies of weights.
-fn past_copies<'a>(rt: &impl Abort, wanted: &'a str, weights: &[Weight]) -> &'a str {
-    let mut rest = past(rt, wanted, " with");
-    for weight in weights {
-        rest = past_copy(rt, rest, weight);
-    }
-    rest
-}
-
-// .. behind the copy of an identifier.
-fn past_same<'a>(rt: &impl Abort, wanted: &'a str, id: &Id) -> &'a str {
-    let copy = id.clone().expect(rt, wanted);
-    assert_that(rt, wanted, copy.is_same(id));
-    let rest = past_id(rt, wanted, &copy);
-    drop(copy);
-    rest
-}
-
-// .. behind an order line.
+// .. behind an order line, with copies of its identifier and its weights.
 fn past_order<'a>(rt: &impl Abort, wanted: &'a str, line: &OrderLine) -> &'a str {
-    let rest = past_same(rt, past(rt, wanted, "order "), &line.id);
-    match &line.weights {
-        Some(weights) => past_copies(rt, rest, weights.get()),
-        None => rest,
+    let copy = line.id.clone().expect(rt, wanted);
+    assert_that(rt, wanted, copy.is_same(&line.id));
+    let rest = past_id(rt, past(rt, wanted, "order "), &copy);
+    drop(copy);
+    let Some(weights) = &line.weights else {
+        return rest;
+    };
+    let mut rest = past(rt, rest, " with");
+    for weight in weights.get() {
+        let copy = weight.clone().expect(rt, wanted);
+        rest = past_weight(rt, past(rt, rest, " "), &copy);
+        drop(copy);
     }
+    rest
 }
 
 /// What is left of a wanted text behind rules, each after a blank.
 pub fn past_rules<'a>(rt: &impl Abort, wanted: &'a str, rules: &[Rule]) -> &'a str {
     let mut rest = wanted;
     for rule in rules {
-        rest = past(rt, rest, rule_text(*rule));
+        let shown = match (rule.backward, rule.position) {
+            (false, false) => " forward",
+            (false, true) => " forward,position",
+            (true, false) => " backward",
+            (true, true) => " backward,position",
+        };
+        rest = past(rt, rest, shown);
     }
     rest
-}
-
-// A rule behind a blank.
-fn rule_text(rule: Rule) -> &'static str {
-    match (rule.backward, rule.position) {
-        (false, false) => " forward",
-        (false, true) => " forward,position",
-        (true, false) => " backward",
-        (true, true) => " backward,position",
-    }
 }

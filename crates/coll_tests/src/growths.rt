@@ -9,7 +9,7 @@ use crate::tables::examples::{
     BASE_TABLE, SECOND_NAMES, SECOND_NAMES_PRINTED, TWO_SECTIONS, TWO_SECTIONS_PRINTED,
     assert_printed, loaded, text_of,
 };
-use coll_table::{LoadCause, LoadFault, Table};
+use coll_table::{LoadCause, LoadFault};
 use std::alloc::Global;
 use std::process::Abort;
 
@@ -28,12 +28,13 @@ pub fn tell_refused<R: Abort + Print>(rt: &R) {
     println!(rt; "a growth was refused").expect(rt, "a line");
 }
 
-// The table that a text is. A refused load gives none.
-fn table_of<R: Abort + Print>(rt: &R, alloc: Global, text: &[u8]) -> Table {
+// Asserts as what the table of these lines is printed. A refused load gives none.
+fn assert_loads<R: Abort + Print>(rt: &R, alloc: Global, lines: &[&str], printed: &[&str]) {
+    let text = text_of(rt, alloc, lines);
     count_growths(rt);
-    let table = loaded(alloc, text);
+    let loads = loaded(alloc, &text);
     count_no_growths(rt);
-    match table {
+    let table = match loads {
         Err(
             LoadFault {
                 cause: LoadCause::OutOfMemory,
@@ -41,16 +42,11 @@ fn table_of<R: Abort + Print>(rt: &R, alloc: Global, text: &[u8]) -> Table {
             },
         ) => {
             tell_refused(rt);
-            loaded(alloc, text).expect(rt, "a table")
+            loaded(alloc, &text).expect(rt, "a table")
         }
         answer => answer.expect(rt, "a table"),
-    }
-}
-
-fn assert_loads<R: Abort + Print>(rt: &R, alloc: Global, lines: &[&str], printed: &[&str]) {
-    let text = text_of(alloc, lines).expect(rt, "a text");
-    let wanted = text_of(alloc, printed).expect(rt, "a text");
-    let table = table_of(rt, alloc, &text);
+    };
+    let wanted = text_of(rt, alloc, printed);
     assert_printed(rt, alloc, &table, &wanted);
     drop(table);
 }

@@ -3,54 +3,31 @@
 //! A reader hands on names alone, and `import_table` takes lines from anyone.
 
 use crate::assertions::{assert_same, assert_text, assert_that};
+use crate::meanings::order_line;
 use crate::meanings::told::tell_losses;
+use crate::tables::examples::id;
 use coll_import::import_table;
-use coll_lex::{ListBuf, TextBuf};
-use coll_sources::{Report, Said, SourceLine, SourcePlace};
-use coll_syntax::{Id, OrderLine, Weight};
+use coll_sources::{Report, SourceLine};
+use coll_syntax::Id;
 use coll_table::HashKeys;
 use std::alloc::Global;
 use std::process::Abort;
 
-// An identifier that is no name.
-fn no_name(rt: &impl Abort, alloc: Global) -> Id {
-    Id::Named(TextBuf::copied(alloc, "a b").expect(rt, "a text"))
-}
+// The number of an order line, its identifier, and the only name that it has as a weight, if it has one: what is no name, twice, a
+// character with a weight that names it, and another character.
+const ORDERED: &[(u32, &str, Option<&str>)] = &[
+    (1, "a b", None),
+    (2, "a b", None),
+    (3, "c", Some("a b")),
+    (4, "d", None),
+];
 
-// A weight that names it.
-fn weight(rt: &impl Abort, alloc: Global) -> ListBuf<Weight> {
-    let mut ids = Vec::new(alloc);
-    ids.push(no_name(rt, alloc)).expect(rt, "an identifier");
-    let mut weights = Vec::new(alloc);
-    weights
-        .push(Weight::Names(ListBuf::new(ids)))
-        .expect(rt, "a weight");
-    ListBuf::new(weights)
-}
-
-// Puts an order line behind others.
-fn push(
-    rt: &impl Abort,
-    lines: &mut Vec<SourceLine>,
-    line: u32,
-    id: Id,
-    weights: Option<ListBuf<Weight>>,
-) {
-    let line = SourceLine {
-        place: SourcePlace { text: 0, line },
-        said: Said::Order(OrderLine { id, weights }),
-    };
-    lines.push(line).expect(rt, "a line");
-}
-
-// Order lines of what is no name, twice, of a character with a weight that names it, and of another character.
 fn lines(rt: &impl Abort, alloc: Global) -> Vec<SourceLine> {
     let mut lines = Vec::new(alloc);
-    push(rt, &mut lines, 1, no_name(rt, alloc), None);
-    push(rt, &mut lines, 2, no_name(rt, alloc), None);
-    let weights = weight(rt, alloc);
-    push(rt, &mut lines, 3, Id::Char('c'), Some(weights));
-    push(rt, &mut lines, 4, Id::Char('d'), None);
+    for (number, text, weight) in ORDERED {
+        let line = order_line(rt, alloc, *number, id(rt, alloc, text), *weight);
+        lines.push(line).expect(rt, "a line");
+    }
     lines
 }
 

@@ -10,7 +10,6 @@ use crate::tables::examples::{
     BASE_TABLE, BOTH_FORWARD, FRENCH_TABLE, SECOND_NAMES, id, loaded_lines,
 };
 use coll_key::{KeyFault, Ranks, compare, key};
-use coll_syntax::Id;
 use coll_table::Table;
 use std::alloc::Global;
 use std::cmp::Ordering;
@@ -126,14 +125,11 @@ const OWN_RANKS: &[(&str, Option<u32>)] = &[
     ("LATE", None),
 ];
 
-fn assert_rank(rt: &impl Abort, ranks: &Ranks, id: Id, rank: Option<u32>) {
-    assert_same(rt, "a rank", ranks.rank(&id), rank);
-    drop(id);
-}
-
 fn assert_ranks(rt: &impl Abort, alloc: Global, ranks: &Ranks, wanted: &[(&str, Option<u32>)]) {
     for (text, rank) in wanted {
-        assert_rank(rt, ranks, id(alloc, text).expect(rt, text), *rank);
+        let id = id(rt, alloc, text);
+        assert_same(rt, *text, ranks.rank(&id), *rank);
+        drop(id);
     }
 }
 
@@ -170,29 +166,21 @@ fn assert_keys_and_orders<R: Abort + Print>(rt: &R, alloc: Global, table: &Table
     }
 }
 
-fn assert_ranked<R: Abort + Print>(rt: &R, alloc: Global, table: &Table) {
-    let ranks = ranks_of(rt, alloc, table);
-    assert_ranks(rt, alloc, &ranks, RANKS);
-    assert_keys_and_orders(rt, alloc, table, &ranks);
-    drop(ranks);
-}
-
 #[test]
 fn keys_and_orders_are_those_of_the_weights(rt: HostRuntime) {
     let table = loaded_lines(rt.alloc(), BASE_TABLE).expect(&rt, "a table");
-    assert_ranked(&rt, rt.alloc(), &table);
-    drop(table);
-}
-
-fn assert_own_ranks(rt: &impl Abort, alloc: Global, table: &Table) {
-    let ranks = Ranks::new(alloc, table).expect(rt, "the ranks");
-    assert_ranks(rt, alloc, &ranks, OWN_RANKS);
+    let ranks = ranks_of(&rt, rt.alloc(), &table);
+    assert_ranks(&rt, rt.alloc(), &ranks, RANKS);
+    assert_keys_and_orders(&rt, rt.alloc(), &table, &ranks);
     drop(ranks);
+    drop(table);
 }
 
 #[test]
 fn a_second_name_has_no_rank(rt: HostRuntime) {
     let table = loaded_lines(rt.alloc(), SECOND_NAMES).expect(&rt, "a table");
-    assert_own_ranks(&rt, rt.alloc(), &table);
+    let ranks = Ranks::new(rt.alloc(), &table).expect(&rt, "the ranks");
+    assert_ranks(&rt, rt.alloc(), &ranks, OWN_RANKS);
+    drop(ranks);
     drop(table);
 }

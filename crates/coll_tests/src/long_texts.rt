@@ -13,27 +13,19 @@ pub fn repeated(
     rest: &[u8],
 ) -> Vec<u8> {
     let mut text = Vec::new(alloc);
-    extend(rt, &mut text, prefix, 1);
-    extend(rt, &mut text, part, count);
-    extend(rt, &mut text, rest, 1);
-    text
-}
-
-fn extend(rt: &impl Abort, text: &mut Vec<u8>, part: &[u8], count: usize) {
+    text.extend_from_slice(prefix).expect(rt, "a long text");
     for _ in 0..count {
         text.extend_from_slice(part).expect(rt, "a long text");
     }
+    text.extend_from_slice(rest).expect(rt, "a long text");
+    text
 }
 
 /// A text that is a part so many times.
 pub fn repeated_text(rt: &impl Abort, alloc: Global, part: &str, count: usize) -> String {
     let mut text = String::new(alloc);
-    extend_text(rt, &mut text, part, count);
-    text
-}
-
-fn extend_text(rt: &impl Abort, text: &mut String, part: &str, count: usize) {
     for _ in 0..count {
         text.push_str(part).expect(rt, "a long text");
     }
+    text
 }

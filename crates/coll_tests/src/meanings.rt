@@ -20,9 +20,9 @@ use coll_source_names::{Found, Placed};
 use coll_sources::{Said, SourceLine, SourcePlace};
 use coll_syntax::{Id, OrderLine, Weight};
 use coll_table::{HashKeys, Table};
-use forms::{by_name, by_number, plain_form, tailored_form};
+use forms::{named_form, plain_form, tailored_form};
 use made_sources::{Made, said};
-use std::alloc::{AllocError, Global};
+use std::alloc::Global;
 use std::process::Abort;
 use told::told;
 
@@ -129,12 +129,16 @@ fn assert_lines(
         None => (None, &[]),
     };
     let wanted = told(rt, alloc, plain_form(rt, alloc, table, placed), lines, ids);
-    let one_by_one = told(rt, alloc, by_name(rt, alloc, table, placed), lines, ids);
+    let form = named_form(rt, alloc, table, placed, false);
+    let one_by_one = told(rt, alloc, form, lines, ids);
     assert_text(rt, alloc, &one_by_one, &wanted);
     drop(one_by_one);
     let kept = match table {
         Some(table) => told(rt, alloc, tailored_form(alloc, table), lines, ids),
-        None => told(rt, alloc, by_number(alloc), lines, ids),
+        None => {
+            let form = named_form(rt, alloc, None, placed, true);
+            told(rt, alloc, form, lines, ids)
+        }
     };
     assert_text(rt, alloc, &kept, &wanted);
     drop(kept);
@@ -142,18 +146,17 @@ fn assert_lines(
 }
 
 // The text of a source of these declarations.
-fn source(alloc: Global, first: &str, second: &str) -> Result<Vec<u8>, AllocError> {
+fn source(rt: &impl Abort, alloc: Global, first: &str, second: &str) -> Vec<u8> {
     let mut text = Vec::new(alloc);
-    text.extend_from_slice(b"LC_COLLATE\n")?;
-    text.extend_from_slice(first.as_bytes())?;
-    text.extend_from_slice(second.as_bytes())?;
-    text.extend_from_slice(b"END LC_COLLATE\n")?;
-    Ok(text)
+    for part in &["LC_COLLATE\n", first, second, "END LC_COLLATE\n"] {
+        text.extend_from_slice(part.as_bytes()).expect(rt, part);
+    }
+    text
 }
 
 // Asserts that the same is told of a source of these declarations.
 fn assert_alike(rt: &impl Abort, alloc: Global, over: &Tailoring, first: &str, second: &str) {
-    let text = source(alloc, first, second).expect(rt, "a text");
+    let text = source(rt, alloc, first, second);
     let lines = said(rt, alloc, &text);
     drop(text);
     assert_lines(rt, alloc, None, &lines, &over.names);
@@ -180,49 +183,53 @@ fn two_declarations_mean_what_names_kept_one_by_one_do(rt: HostRuntime) {
 // How many sources are made.
 const SOURCES: u64 = 60;
 
-// The lines of a source that is made, of which the seed is this.
-fn made_lines(rt: &impl Abort, alloc: Global, seed: u64) -> Vec<SourceLine> {
-    let mut made = Made::new(alloc, seed);
-    made.push(b"LC_COLLATE\n").expect(rt, "a head");
-    made.declarations(16).expect(rt, "declarations");
-    made.orders(48).expect(rt, "order lines");
-    made.push(b"END LC_COLLATE\n").expect(rt, "an end");
-    let text = made.into_text();
-    let lines = said(rt, alloc, &text);
-    drop(text);
-    lines
-}
-
-// An order line of an identifier that is no name, which is its weight as well. A weight of a character names it, too.
-fn line_of_none(rt: &impl Abort, alloc: Global, id: Id) -> SourceLine {
-    let mut ids = Vec::new(alloc);
-    ids.push(named(rt, alloc, "no name")).expect(rt, "a name");
-    let mut weights = Vec::new(alloc);
-    weights
-        .push(Weight::Names(ListBuf::new(ids)))
-        .expect(rt, "a weight");
+/// An order line, whose only weight is this name, if one is given.
+pub fn order_line(
+    rt: &impl Abort,
+    alloc: Global,
+    line: u32,
+    id: Id,
+    weight: Option<&str>,
+) -> SourceLine {
+    let weights = match weight {
+        Some(name) => {
+            let mut ids = Vec::new(alloc);
+            ids.push(named(rt, alloc, name)).expect(rt, "a name");
+            let mut weights = Vec::new(alloc);
+            weights
+                .push(Weight::Names(ListBuf::new(ids)))
+                .expect(rt, "a weight");
+            Some(ListBuf::new(weights))
+        }
+        None => None,
+    };
     SourceLine {
-        place: SourcePlace { text: 0, line: 1 },
-        said: Said::Order(OrderLine {
-            id,
-            weights: Some(ListBuf::new(weights)),
-        }),
+        place: SourcePlace { text: 0, line },
+        said: Said::Order(OrderLine { id, weights }),
     }
 }
 
-// Puts order lines of no names behind others.
+// Puts order lines behind others, whose identifiers or weights are no names.
 fn push_none(rt: &impl Abort, alloc: Global, lines: &mut Vec<SourceLine>) {
-    for name in ["no name", "", "no name", "N"] {
-        let line = line_of_none(rt, alloc, named(rt, alloc, name));
+    for name in &["no name", "", "no name", "N"] {
+        let id = named(rt, alloc, name);
+        let line = order_line(rt, alloc, 1, id, Some("no name"));
         lines.push(line).expect(rt, "a line");
     }
-    let line = line_of_none(rt, alloc, Id::Char('x'));
+    let line = order_line(rt, alloc, 1, Id::Char('x'), Some("no name"));
     lines.push(line).expect(rt, "a line");
 }
 
 // Asserts that the same is told of the source that is made of a seed.
 fn assert_made(rt: &impl Abort, alloc: Global, over: &Tailoring, seed: u64) {
-    let mut lines = made_lines(rt, alloc, seed);
+    let mut made = Made::new(alloc, seed);
+    made.push(rt, b"LC_COLLATE\n");
+    made.declarations(rt, 16);
+    made.orders(rt, 48);
+    made.push(rt, b"END LC_COLLATE\n");
+    let text = made.into_text();
+    let mut lines = said(rt, alloc, &text);
+    drop(text);
     if seed % 4 == 0 {
         push_none(rt, alloc, &mut lines);
     }
@@ -240,27 +247,22 @@ fn made_sources_mean_what_names_kept_one_by_one_do(rt: HostRuntime) {
     drop(over);
 }
 
-// The lines of a source of so many ranges that are far from each other.
-fn far_lines(rt: &impl Abort, alloc: Global, count: usize) -> Vec<SourceLine> {
-    let mut made = Made::new(alloc, count as u64);
-    let mut orders = Made::new(alloc, 0);
-    made.push(b"LC_COLLATE\n").expect(rt, "a head");
-    made.far_ranges(count, &mut orders).expect(rt, "ranges");
-    made.declarations(4).expect(rt, "declarations");
-    let orders = orders.into_text();
-    made.push(&orders).expect(rt, "order lines");
-    drop(orders);
-    made.push(b"END LC_COLLATE\n").expect(rt, "an end");
-    let text = made.into_text();
-    let lines = said(rt, alloc, &text);
-    drop(text);
-    lines
-}
-
+// The ranges of each source are far from each other.
 #[test]
 fn as_many_ranges_as_are_kept_and_more_mean_what_names_kept_one_by_one_do(rt: HostRuntime) {
     for count in 62usize..=67 {
-        let lines = far_lines(&rt, rt.alloc(), count);
+        let mut made = Made::new(rt.alloc(), count as u64);
+        let mut orders = Made::new(rt.alloc(), 0);
+        made.push(&rt, b"LC_COLLATE\n");
+        made.far_ranges(&rt, count, &mut orders);
+        made.declarations(&rt, 4);
+        let orders = orders.into_text();
+        made.push(&rt, &orders);
+        drop(orders);
+        made.push(&rt, b"END LC_COLLATE\n");
+        let text = made.into_text();
+        let lines = said(&rt, rt.alloc(), &text);
+        drop(text);
         assert_lines(&rt, rt.alloc(), None, &lines, &[]);
         drop(lines);
     }
@@ -274,11 +276,12 @@ const OF_FULL: &[&str] = &[
 // Asserts that the same is told of a source with these declarations, with its ranges kept as they are.
 fn assert_full(rt: &impl Abort, alloc: Global, declared: &str) {
     let ids = all_named(rt, alloc, OF_FULL);
-    let text = source(alloc, declared, "").expect(rt, "a text");
+    let text = source(rt, alloc, declared, "");
     let lines = said(rt, alloc, &text);
     drop(text);
     let wanted = told(rt, alloc, plain_form(rt, alloc, None, &[]), &lines, &ids);
-    let given = told(rt, alloc, by_number(alloc), &lines, &ids);
+    let form = named_form(rt, alloc, None, &[], true);
+    let given = told(rt, alloc, form, &lines, &ids);
     assert_text(rt, alloc, &given, &wanted);
     drop(given);
     drop(wanted);

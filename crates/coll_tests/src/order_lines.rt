@@ -4,26 +4,15 @@
 //! character: such a line is read token by token. What the line says, or its fault, has to be the same.
 
 use crate::assertions::assert_text;
+use crate::long_texts::repeated;
 use crate::meanings::told::{tell, tell_losses};
+use crate::pieces::Form;
 use crate::random::Random;
 use coll_lex::Counted;
 use coll_sources::{Said, SourceKind, SourceLine, SourceReader};
 use coll_table::HashKeys;
-use std::alloc::{AllocError, Global};
+use std::alloc::Global;
 use std::process::Abort;
-
-// How a text is written.
-#[derive(Clone, Copy)]
-struct Form {
-    // Its directives.
-    head: &'static str,
-    // The escape character, which is `@` in a piece.
-    escape: u8,
-    // The comment character, which is `%` in a piece.
-    comment: u8,
-    // What ends a line.
-    end: &'static str,
-}
 
 const FORMS: &[Form] = &[
     Form {
@@ -126,105 +115,40 @@ const LIKELY: &[&str] = &[
     "% <a>",
 ];
 
-// A line that is made of pieces: each byte of them, but for `@` and `%`.
-#[derive(Drop)]
-struct MadeLine {
-    text: Vec<u8>,
-    form: Form,
+// Puts a first piece and weights behind a line, with a blank and semicolons between.
+fn push_likely(rt: &impl Abort, line: &mut Vec<u8>, form: Form, random: &mut Random) {
+    form.push(rt, line, random.one_of(LIKELY));
+    form.push(rt, line, " ");
+    for _ in 0..random.below(5) {
+        form.push(rt, line, random.one_of(LIKELY));
+        form.push(rt, line, random.one_of(&[";", " ; ", "; ", " "]));
+    }
+    form.push(rt, line, random.one_of(LIKELY));
 }
 
-impl MadeLine {
-    // Puts a piece behind the others.
-    fn push(&mut self, piece: &str) -> Result<(), AllocError> {
-        for byte in piece.as_bytes() {
-            match *byte {
-                b'@' => self.text.push(self.form.escape)?,
-                b'%' => self.text.push(self.form.comment)?,
-                other => self.text.push(other)?,
-            }
-        }
-        Ok(())
+// A line that is made of pieces, and ends with no escape character.
+fn made_line(rt: &impl Abort, alloc: Global, form: Form, random: &mut Random) -> Vec<u8> {
+    let mut line = Vec::new(alloc);
+    if random.is_so(50) {
+        push_likely(rt, &mut line, form, random);
     }
-
-    // Puts any pieces behind the others.
-    fn push_any(&mut self, random: &mut Random) -> Result<(), AllocError> {
-        for _ in 0..random.below(7) {
-            self.push(random.one_of(PIECES))?;
-        }
-        Ok(())
+    for _ in 0..random.below(7) {
+        form.push(rt, &mut line, random.one_of(PIECES));
     }
-
-    // Puts weights behind the others, with a blank and semicolons between.
-    fn push_likely(&mut self, random: &mut Random) -> Result<(), AllocError> {
-        self.push(random.one_of(LIKELY))?;
-        self.push(" ")?;
-        for _ in 0..random.below(5) {
-            self.push(random.one_of(LIKELY))?;
-            self.push(random.one_of(&[";", " ; ", "; ", " "]))?;
-        }
-        self.push(random.one_of(LIKELY))
+    if line.last() == Some(&form.escape) {
+        line.push(b'x').expect(rt, "a line");
     }
-
-    // Makes a line, which ends with no escape character.
-    fn make(&mut self, random: &mut Random) -> Result<(), AllocError> {
-        if random.is_so(50) {
-            self.push_likely(random)?;
-        }
-        self.push_any(random)?;
-        if self.text.last() == Some(&self.form.escape) {
-            self.text.push(b'x')?;
-        }
-        Ok(())
-    }
+    line
 }
 
-// Where an empty line is joined to a line, by an escape character.
-#[derive(Clone, Copy)]
-enum Joined {
-    // None is.
-    Nowhere,
-    // Before it.
-    Before,
-    // Behind it.
-    Behind,
-}
+// What stands before a line and behind it where it is read alone.
+const ALONE: (&str, &str) = ("LC_COLLATE\n", "\nEND LC_COLLATE\n");
 
-// Puts an escape character, and the end of its line, behind a text.
-fn push_escape(text: &mut Vec<u8>, form: Form) -> Result<(), AllocError> {
-    text.push(form.escape)?;
-    text.extend_from_slice(form.end.as_bytes())?;
-    Ok(())
-}
-
-// The text of a source that has a line in its category.
-fn source(alloc: Global, form: Form, line: &[u8], joined: Joined) -> Result<Vec<u8>, AllocError> {
-    let mut text = Vec::new(alloc);
-    push_source(&mut text, form, line, joined)?;
-    Ok(text)
-}
-
-// Puts it where there is none.
-fn push_source(
-    text: &mut Vec<u8>,
-    form: Form,
-    line: &[u8],
-    joined: Joined,
-) -> Result<(), AllocError> {
-    text.extend_from_slice(form.head.as_bytes())?;
-    text.extend_from_slice(b"LC_COLLATE")?;
-    text.extend_from_slice(form.end.as_bytes())?;
-    if matches!(joined, Joined::Before) {
-        push_escape(text, form)?;
-    }
-    text.extend_from_slice(line)?;
-    if matches!(joined, Joined::Behind) {
-        push_escape(text, form)?;
-    }
-    text.extend_from_slice(form.end.as_bytes())?;
-    text.extend_from_slice(b"END LC_COLLATE")?;
-    text.extend_from_slice(form.end.as_bytes())?;
-    Ok(())
-}
+// The same where an empty line is joined to it by an escape character, before it or behind it.
+const JOINED: &[(&str, &str)] = &[
+    ("LC_COLLATE\n@\n", "\nEND LC_COLLATE\n"),
+    ("LC_COLLATE\n", "@\n\nEND LC_COLLATE\n"),
+];
 
 // Tells what lines say.
 fn tell_all(rt: &impl Abort, alloc: Global, lines: &[SourceLine], text: &mut Vec<u8>) {
@@ -237,8 +161,15 @@ fn tell_all(rt: &impl Abort, alloc: Global, lines: &[SourceLine], text: &mut Vec
     }
 }
 
-// All that a reader tells of a source.
-fn read(rt: &impl Abort, alloc: Global, source: &[u8]) -> Vec<u8> {
+// All that a reader tells of a source that has a line between these pieces.
+fn told(rt: &impl Abort, alloc: Global, form: Form, line: &[u8], around: (&str, &str)) -> Vec<u8> {
+    let mut source = Vec::new(alloc);
+    source
+        .extend_from_slice(form.head.as_bytes())
+        .expect(rt, "a source");
+    form.push(rt, &mut source, around.0);
+    source.extend_from_slice(line).expect(rt, "a source");
+    form.push(rt, &mut source, around.1);
     let mut told = Vec::new(alloc);
     let mut reader = SourceReader::new(
         alloc,
@@ -247,9 +178,10 @@ fn read(rt: &impl Abort, alloc: Global, source: &[u8]) -> Vec<u8> {
         "source",
         &[],
     ).expect(rt, "a reader");
-    if let Err(fault) = reader.take_text(&mut Counted::new(source)) {
+    if let Err(fault) = reader.take_text(&mut Counted::new(source.as_slice())) {
         tell(rt, alloc, fault.cause.number(), &mut told);
     }
+    drop(source);
     let (lines, report) = reader.into_parts();
     tell_all(rt, alloc, &lines, &mut told);
     tell_losses(rt, report.losses(), &mut told);
@@ -258,58 +190,28 @@ fn read(rt: &impl Abort, alloc: Global, source: &[u8]) -> Vec<u8> {
     told
 }
 
-// What is told of a line.
-fn told(rt: &impl Abort, alloc: Global, form: Form, line: &[u8], joined: Joined) -> Vec<u8> {
-    let text = source(alloc, form, line, joined).expect(rt, "a text");
-    let told = read(rt, alloc, &text);
-    drop(text);
-    told
-}
-
 // Asserts that a line says what its tokens say.
 fn assert_line(rt: &impl Abort, alloc: Global, form: Form, line: &[u8]) {
-    let wanted = told(rt, alloc, form, line, Joined::Nowhere);
-    for joined in [Joined::Before, Joined::Behind] {
-        let given = told(rt, alloc, form, line, joined);
+    let wanted = told(rt, alloc, form, line, ALONE);
+    for around in JOINED {
+        let given = told(rt, alloc, form, line, *around);
         assert_text(rt, alloc, &given, &wanted);
         drop(given);
     }
     drop(wanted);
 }
 
-// Asserts that a made line says what its tokens say.
-fn assert_made(rt: &impl Abort, alloc: Global, form: Form, random: &mut Random) {
-    let mut line = MadeLine {
-        text: Vec::new(alloc),
-        form,
-    };
-    line.make(random).expect(rt, "a line");
-    assert_line(rt, alloc, form, &line.text);
-    drop(line);
-}
-
-// Asserts that a weight of so many symbols is read where it stands as its tokens are.
-fn assert_string(rt: &impl Abort, alloc: Global, form: Form, count: usize) {
-    let mut line = MadeLine {
-        text: Vec::new(alloc),
-        form,
-    };
-    line.push("<a> \"").expect(rt, "a line");
-    for _ in 0..count {
-        line.push("<a>").expect(rt, "a line");
-    }
-    line.push("\"").expect(rt, "a line");
-    assert_line(rt, alloc, form, &line.text);
-    drop(line);
-}
-
-// The same of all lines of a form.
+// Asserts it of made lines of a form, and of weights of so many symbols.
 fn assert_form(rt: &impl Abort, alloc: Global, form: Form, random: &mut Random) {
     for _ in 0..60 {
-        assert_made(rt, alloc, form, random);
+        let line = made_line(rt, alloc, form, random);
+        assert_line(rt, alloc, form, &line);
+        drop(line);
     }
     for count in 31usize..=33 {
-        assert_string(rt, alloc, form, count);
+        let line = repeated(rt, alloc, b"<a> \"", b"<a>", count, b"\"");
+        assert_line(rt, alloc, form, &line);
+        drop(line);
     }
 }
 

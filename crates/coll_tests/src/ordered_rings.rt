@@ -140,20 +140,16 @@ fn drop_node(rt: &impl Abort, rings: &mut Rings, node: NodeId) {
     assert_that(rt, "no node any more", !rings.is_loose(node));
 }
 
-// Asserts that a node has a tag, and answers the node after it.
-fn after_tag(rt: &impl Abort, rings: &Rings, node: NodeId, tag: usize) -> Option<NodeId> {
-    assert_that(rt, "a linked node", rings.is_linked(node));
-    rings.lemma_layout();
-    assert_same(rt, "a tag", rings.tag(node), tag);
-    rings.next(node)
-}
-
 fn assert_ring(rt: &impl Abort, rings: &Rings, ring: RingId, tags: &[usize], end: Place) {
     assert_that(rt, "a ring", rings.is_ring(ring));
     assert_same(rt, "its end", rings.end(ring), end);
     let mut here = rings.first(ring);
     for tag in tags {
-        here = after_tag(rt, rings, here.expect(rt, "a node"), *tag);
+        let node = here.expect(rt, "a node");
+        assert_that(rt, "a linked node", rings.is_linked(node));
+        rings.lemma_layout();
+        assert_same(rt, "a tag", rings.tag(node), *tag);
+        here = rings.next(node);
     }
     assert_same(rt, "after the last", here, None);
 }
@@ -204,16 +200,12 @@ const INTO_ANOTHER_RING: &[Call] = &[
     Steps(5),
 ];
 
-fn assert_calls<R: Abort + Print>(rt: &R, rings: &mut Rings, calls: &[Call]) {
-    let names = make(rt, rings);
-    perform_all(rt, rings, &names, calls);
-}
-
 #[test]
 fn a_node_goes_behind_another_and_into_another_ring(rt: HostRuntime) {
-    for calls in [BEHIND_THE_OTHER, INTO_ANOTHER_RING] {
+    for calls in &[BEHIND_THE_OTHER, INTO_ANOTHER_RING] {
         let mut rings = Rings::new(rt.alloc());
-        assert_calls(&rt, &mut rings, calls);
+        let names = make(&rt, &mut rings);
+        perform_all(&rt, &mut rings, &names, calls);
         drop(rings);
     }
 }
@@ -241,21 +233,16 @@ fn copy_of<R: Abort + Print>(rt: &R, alloc: Global, source: &Rings) -> Rings {
     }
 }
 
-// Changes both, and asserts that neither changes the other.
-fn assert_apart<R: Abort + Print>(rt: &R, source: &mut Rings, copy: &mut Rings, names: &Names) {
-    let other = copy.new_ring().expect(rt, "a ring");
-    perform_all(rt, source, names, LAST_DROPPED);
-    perform_all(rt, copy, names, STILL_LINKED);
-    assert_that(rt, "no ring of the source", !source.is_ring(other));
-}
-
 #[test]
 fn a_copy_and_its_source_change_apart(rt: HostRuntime) {
     let mut source = Rings::new(rt.alloc());
     let names = make(&rt, &mut source);
     perform_all(&rt, &mut source, &names, LINKED);
     let mut copy = copy_of(&rt, rt.alloc(), &source);
-    assert_apart(&rt, &mut source, &mut copy, &names);
+    let other = copy.new_ring().expect(&rt, "a ring");
+    perform_all(&rt, &mut source, &names, LAST_DROPPED);
+    perform_all(&rt, &mut copy, &names, STILL_LINKED);
+    assert_that(&rt, "no ring of the source", !source.is_ring(other));
     drop(source);
     drop(copy);
 }

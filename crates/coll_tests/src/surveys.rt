@@ -4,26 +4,14 @@
 //! accepts are surveyed both ways.
 
 use crate::assertions::{assert_same, assert_that};
+use crate::pieces::Form;
 use crate::tables::examples::loaded;
-use coll_findings::{Told, Warned, WarnedKind, Warnings};
+use coll_findings::{Told, Warned, WarnedKind};
 use coll_surveys::{survey_accepted, survey_table};
 use coll_syntax::Id;
 use coll_table::{HashKeys, Table};
-use std::alloc::{AllocError, Global};
+use std::alloc::Global;
 use std::process::Abort;
-
-// How a text is written.
-#[derive(Clone, Copy)]
-struct Form {
-    // Its directives.
-    head: &'static str,
-    // The escape character, which is `@` in a piece.
-    escape: u8,
-    // The comment character, which is `%` in a piece.
-    comment: u8,
-    // What ends a line of a piece.
-    end: &'static str,
-}
 
 const FORMS: &[Form] = &[
     Form {
@@ -93,29 +81,6 @@ const BEHIND: &[&str] = &["", "<B>\n", "@\n<B>\n", "script <T>\n"];
 // What ends a text, with what is not looked at.
 const END: &str = "order_end\nEND LC_COLLATE\n<B> @\nscript <S>\n";
 
-// The text of these pieces.
-fn text_of(alloc: Global, form: Form, pieces: &[&str]) -> Result<Vec<u8>, AllocError> {
-    let mut text = Vec::new(alloc);
-    text.extend_from_slice(form.head.as_bytes())?;
-    for piece in pieces {
-        push_piece(&mut text, form, piece)?;
-    }
-    Ok(text)
-}
-
-// Puts a piece behind a text.
-fn push_piece(text: &mut Vec<u8>, form: Form, piece: &str) -> Result<(), AllocError> {
-    for byte in piece.as_bytes() {
-        match *byte {
-            b'@' => text.push(form.escape)?,
-            b'%' => text.push(form.comment)?,
-            b'\n' => text.extend_from_slice(form.end.as_bytes())?,
-            other => text.push(other)?,
-        }
-    }
-    Ok(())
-}
-
 // The name that a warning is about, if it is about one.
 fn name_of(warned: &Warned) -> &str {
     match &warned.id {
@@ -133,28 +98,19 @@ fn assert_kind(rt: &impl Abort, given: &WarnedKind, wanted: &WarnedKind) {
     }
 }
 
-fn assert_warnings(rt: &impl Abort, given: &Warnings, wanted: &Warnings) {
+// Asserts that the same is told of a text without fault. The answer is how many warnings.
+fn assert_told(rt: &impl Abort, given: &Told, wanted: &Told) -> u32 {
+    assert_same(rt, "faults", given.faults.len(), 0);
+    assert_same(rt, "faults of any table", wanted.faults.len(), 0);
+    let (given, wanted) = (&given.warnings, &wanted.warnings);
     assert_same(rt, "the input", given.input, wanted.input);
     assert_kind(rt, &given.copies, &wanted.copies);
     assert_kind(rt, &given.scripts, &wanted.scripts);
     assert_kind(rt, &given.symbols, &wanted.symbols);
     assert_kind(rt, &given.elements, &wanted.elements);
     assert_kind(rt, &given.unchanged, &wanted.unchanged);
-}
-
-fn assert_told(rt: &impl Abort, given: &Told, wanted: &Told) {
-    assert_same(rt, "faults", given.faults.len(), 0);
-    assert_same(rt, "faults of any table", wanted.faults.len(), 0);
-    assert_warnings(rt, &given.warnings, &wanted.warnings);
-}
-
-// How many warnings there are of a table.
-fn count_of(warnings: &Warnings) -> u32 {
-    warnings
-        .scripts
-        .count
-        .saturating_add(warnings.symbols.count)
-        .saturating_add(warnings.elements.count)
+    let named = given.symbols.count.saturating_add(given.elements.count);
+    given.scripts.count.saturating_add(named)
 }
 
 // Asserts that both surveys of a text tell the same, which gives this table. The answer is how many warnings.
@@ -162,16 +118,20 @@ fn assert_alike(rt: &impl Abort, alloc: Global, text: &[u8], table: Table) -> u3
     let keys = HashKeys::zeros();
     let given = survey_accepted(alloc, keys, text, table).expect(rt, "a survey");
     let wanted = survey_table(alloc, keys, text).expect(rt, "a survey of any table");
-    assert_told(rt, &given.told, &wanted.told);
-    let warned = count_of(&given.told.warnings);
+    let warned = assert_told(rt, &given.told, &wanted.told);
     drop(given);
     drop(wanted);
     warned
 }
 
-// Asserts this of a text, if a load accepts it. The answer is how many warnings.
+// Asserts this of the text of these pieces, if a load accepts it. The answer is how many warnings.
 fn assert_if_accepted(rt: &impl Abort, alloc: Global, form: Form, pieces: &[&str]) -> u32 {
-    let text = text_of(alloc, form, pieces).expect(rt, "a text");
+    let mut text = Vec::new(alloc);
+    text.extend_from_slice(form.head.as_bytes())
+        .expect(rt, "a text");
+    for piece in pieces {
+        form.push(rt, &mut text, piece);
+    }
     let warned = match loaded(alloc, &text) {
         Ok(table) => assert_alike(rt, alloc, &text, table),
         Err(_) => 0,

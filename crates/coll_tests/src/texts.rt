@@ -7,7 +7,6 @@ use crate::growths::{count_growths, count_no_growths, tell_refused};
 use crate::keys::{Compared, KEYS, ORDERS};
 use crate::tables::examples::{BASE_TABLE, id, loaded_lines};
 use coll_key::{EntryNumbers, KeyFault, compare_texts, key_of_text};
-use coll_syntax::Id;
 use coll_table::Table;
 use std::alloc::Global;
 use std::cmp::Ordering;
@@ -39,18 +38,13 @@ fn number<R: Abort + Print>(rt: &R, table: &Table, numbers: &mut EntryNumbers)
     }
 }
 
-fn assert_place(rt: &impl Abort, table: &Table, numbers: &EntryNumbers, id: Id, place: Option<u32>)
-    requires { AreNumbersOf numbers.now table.now.layout }
-{
-    assert_same(rt, "a place", table.entry_number(numbers, &id), place);
-    drop(id);
-}
-
 fn assert_places(rt: &impl Abort, alloc: Global, table: &Table, numbers: &EntryNumbers)
     requires { AreNumbersOf numbers.now table.now.layout }
 {
     for (text, place) in PLACES {
-        assert_place(rt, table, numbers, id(alloc, text).expect(rt, text), *place);
+        let id = id(rt, alloc, text);
+        assert_same(rt, *text, table.entry_number(numbers, &id), *place);
+        drop(id);
     }
 }
 
@@ -111,17 +105,13 @@ fn assert_keys_and_orders<R: Abort + Print>(
     }
 }
 
-fn assert_looked_up<R: Abort + Print>(rt: &R, alloc: Global, table: &Table) {
-    let mut numbers = EntryNumbers::new(alloc);
-    number(rt, table, &mut numbers);
-    assert_places(rt, alloc, table, &numbers);
-    assert_keys_and_orders(rt, alloc, table, &numbers);
-    drop(numbers);
-}
-
 #[test]
 fn texts_that_are_looked_up_have_the_keys_by_ranks(rt: HostRuntime) {
     let table = loaded_lines(rt.alloc(), BASE_TABLE).expect(&rt, "a table");
-    assert_looked_up(&rt, rt.alloc(), &table);
+    let mut numbers = EntryNumbers::new(rt.alloc());
+    number(&rt, &table, &mut numbers);
+    assert_places(&rt, rt.alloc(), &table, &numbers);
+    assert_keys_and_orders(&rt, rt.alloc(), &table, &numbers);
+    drop(numbers);
     drop(table);
 }

@@ -2,9 +2,6 @@
 //!
 //! What a device has taken where it fails is a prefix of what is written, and it is called no more.
 
-ghost use Rattle.coll_ranks.specs.Ranks.{AreRanksOf};
-ghost use Rattle.coll_nodes.specs.TableLayout.{collation};
-
 use crate::assertions::{assert_same, assert_that};
 use crate::batches::asked::named;
 use crate::batches::runs::{BASE_LISTING, PRINTED};
@@ -81,14 +78,6 @@ const WRITE_FAULT: RunFault = RunFault {
     fault: Fault::Write(WriteStop::WriteFault),
 };
 
-// A stop as the fault of a run.
-fn stopped(answer: Result<(), WriteStop>) -> Result<(), RunFault> {
-    match answer {
-        Ok(()) => Ok(()),
-        Err(WriteStop::WriteFault) => Err(WRITE_FAULT),
-    }
-}
-
 fn write_ranked(
     rt: &impl Abort,
     alloc: Global,
@@ -99,24 +88,14 @@ fn write_ranked(
     let ranks = Ranks::new(alloc, table).expect(rt, "the ranks");
     let answer = match what {
         Written::Listing => write_compiled(table, &ranks, out),
-        _ => write_key_of(rt, alloc, table, &ranks, out),
+        _ => {
+            let key = key(alloc, table, &ranks, "a-b").expect(rt, "a key");
+            let answer = write_key(table.rules(), &key, out);
+            drop(key);
+            answer
+        }
     };
     drop(ranks);
-    answer
-}
-
-fn write_key_of(
-    rt: &impl Abort,
-    alloc: Global,
-    table: &Table,
-    ranks: &Ranks,
-    out: &mut Output,
-) -> Result<(), WriteStop>
-    requires { AreRanksOf ranks.now (collation table.now) }
-{
-    let key = key(alloc, table, ranks, "a-b").expect(rt, "a key");
-    let answer = write_key(table.rules(), &key, out);
-    drop(key);
     answer
 }
 
@@ -134,25 +113,24 @@ fn write_of_table(
         _ => write_ranked(rt, alloc, &table, what, out),
     };
     drop(table);
-    stopped(answer)
+    match answer {
+        Ok(()) => Ok(()),
+        Err(WriteStop::WriteFault) => Err(WRITE_FAULT),
+    }
 }
 
-fn write_fault_line(rt: &impl Abort, names: &[String], out: &mut Output) -> Result<(), RunFault> {
-    assert!(rt; names.len() == 1, "one name");
-    match write_fault(&LONG_LINE, names, out) {
+fn write_fault_of(rt: &impl Abort, alloc: Global, out: &mut Output) -> Result<(), RunFault> {
+    let names = named(rt, alloc, &["B.txt"]);
+    assert_that(rt, "one name", names.len() == 1);
+    let answer = write_fault(&LONG_LINE, &names, out);
+    drop(names);
+    match answer {
         Ok(()) => Ok(()),
         Err(fault) => Err(RunFault {
             fault,
             ..WRITE_FAULT
         }),
     }
-}
-
-fn write_fault_of(rt: &impl Abort, alloc: Global, out: &mut Output) -> Result<(), RunFault> {
-    let names = named(alloc, &["B.txt"]).expect(rt, "a name");
-    let answer = write_fault_line(rt, &names, out);
-    drop(names);
-    answer
 }
 
 fn write_replies(
@@ -175,7 +153,7 @@ fn write_batch(
     deltas: &[&str],
     out: &mut Output,
 ) -> Result<(), RunFault> {
-    let table = text_of(alloc, BASE_TABLE).expect(rt, "the table");
+    let table = text_of(rt, alloc, BASE_TABLE);
     let answer = run_batch(rt, alloc, batch, &table, deltas, NONE_FAILS, out);
     drop(table);
     answer
@@ -191,25 +169,21 @@ fn write(rt: &impl Abort, alloc: Global, what: Written, out: &mut Output) -> Res
     }
 }
 
-fn lines(rt: &impl Abort, alloc: Global, lines: Lines) -> Vec<u8> {
-    text_of(alloc, lines).expect(rt, "a text")
-}
-
 // All that is written.
 fn wanted(rt: &impl Abort, alloc: Global, what: Written) -> Vec<u8> {
     match what {
-        Written::Canonical => lines(rt, alloc, BASE_TABLE),
-        Written::Exported => lines(rt, alloc, EXPORTED),
+        Written::Canonical => text_of(rt, alloc, BASE_TABLE),
+        Written::Exported => text_of(rt, alloc, EXPORTED),
         Written::Key => {
             let mut key = Vec::new(alloc);
             key.extend_from_slice(b"4 6 | 1 1 | 2 2 | @2 9 |")
                 .expect(rt, "room");
             key
         }
-        Written::Fault => lines(rt, alloc, &["B.txt:7: 10 LineTooLong"]),
+        Written::Fault => text_of(rt, alloc, &["B.txt:7: 10 LineTooLong"]),
         Written::Replies(session) => session.course(rt, alloc, usize::MAX).replies,
         Written::Printed => PRINTED.text(rt, alloc),
-        Written::Listing | Written::Compiled => lines(rt, alloc, BASE_LISTING),
+        Written::Listing | Written::Compiled => text_of(rt, alloc, BASE_LISTING),
     }
 }
 

@@ -79,7 +79,7 @@ fn assert_row(rt: &impl Abort, alloc: Global, row: &Read, table: &[u8]) {
 
 #[test]
 fn a_read_that_fails_is_the_fault_of_its_input(rt: HostRuntime) {
-    let table = text_of(rt.alloc(), BASE_TABLE).expect(&rt, "the table");
+    let table = text_of(&rt, rt.alloc(), BASE_TABLE);
     for row in READS {
         assert_row(&rt, rt.alloc(), row, &table);
     }

@@ -106,7 +106,7 @@ const REFUSED: &[(Asked, &[&str], &str)] = &[
 
 #[test]
 fn a_batch_writes_what_it_is_asked_for(rt: HostRuntime) {
-    let table = text_of(rt.alloc(), BASE_TABLE).expect(&rt, "the table");
+    let table = text_of(&rt, rt.alloc(), BASE_TABLE);
     for (asked, deltas, output) in DONE {
         let output = output.text(&rt, rt.alloc());
         let inputs = Inputs {
@@ -120,7 +120,7 @@ fn a_batch_writes_what_it_is_asked_for(rt: HostRuntime) {
 
 #[test]
 fn a_batch_at_fault_writes_nothing(rt: HostRuntime) {
-    let table = text_of(rt.alloc(), BASE_TABLE).expect(&rt, "the table");
+    let table = text_of(&rt, rt.alloc(), BASE_TABLE);
     for (asked, deltas, line) in REFUSED {
         let inputs = Inputs {
             table: &table,

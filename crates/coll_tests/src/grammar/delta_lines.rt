@@ -2,9 +2,9 @@
 
 ghost use Rattle.coll_lex.specs.Names.{AreTokens};
 
-use super::{Place, assert_rows, past_element, past_id, past_named, past_order, past_second};
-use crate::assertions::{past, past_name};
-use coll_lex::{Line, TextBuf};
+use super::{Place, assert_rows, past_element, past_id, past_named, past_order, past_two};
+use crate::assertions::past;
+use coll_lex::Line;
 use coll_syntax::{DeltaLine, parse_delta_line};
 use std::alloc::Global;
 use std::process::Abort;
@@ -24,23 +24,22 @@ pub fn past_line<'a>(rt: &impl Abort, alloc: Global, wanted: &'a str, line: &Lin
 
 fn past_read<'a>(rt: &impl Abort, wanted: &'a str, line: &DeltaLine) -> &'a str {
     match line {
-        DeltaLine::Symbol(name) => past_named(rt, wanted, "symbol ", name),
-        DeltaLine::Element { name, text } => past_element(rt, wanted, name, text),
-        DeltaLine::Equivalence { name, symbol } => past_second(rt, wanted, name, symbol),
+        DeltaLine::Symbol(name) => past_named(rt, wanted, "symbol ", name.get()),
+        DeltaLine::Element { name, text } => past_element(rt, wanted, name.get(), text.get()),
+        DeltaLine::Equivalence { name, symbol } => {
+            past_two(rt, wanted, "second ", name.get(), symbol.get())
+        }
         DeltaLine::Script => past(rt, wanted, "script"),
         DeltaLine::Category => past(rt, wanted, "LC_COLLATE"),
         DeltaLine::EndCategory => past(rt, wanted, "END"),
         DeltaLine::Copy => past(rt, wanted, "copy"),
         DeltaLine::ReorderAfter(target) => past_id(rt, past(rt, wanted, "after "), target),
         DeltaLine::ReorderEnd => past(rt, wanted, "end"),
-        DeltaLine::SectionAfter { moved, after } => past_section(rt, wanted, moved, after),
+        DeltaLine::SectionAfter { moved, after } => {
+            past_two(rt, wanted, "section ", moved.get(), after.get())
+        }
         DeltaLine::Order(line) => past_order(rt, wanted, line),
     }
-}
-
-fn past_section<'a>(rt: &impl Abort, wanted: &'a str, moved: &TextBuf, after: &TextBuf) -> &'a str {
-    let rest = past_named(rt, wanted, "section ", moved);
-    past_name(rt, past(rt, rest, " "), after.get())
 }
 
 const ROWS: &str = r#"-- Declarations and lines without effect.

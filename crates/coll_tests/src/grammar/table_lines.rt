@@ -2,7 +2,7 @@
 
 ghost use Rattle.coll_lex.specs.Names.{AreTokens};
 
-use super::{Place, assert_rows, past_element, past_named, past_order, past_rules, past_second};
+use super::{Place, assert_rows, past_element, past_named, past_order, past_rules, past_two};
 use crate::assertions::{past, past_name};
 use coll_lex::{Line, TextBuf};
 use coll_syntax::{Rules, TableLine, parse_table_line};
@@ -24,12 +24,14 @@ pub fn past_line<'a>(rt: &impl Abort, alloc: Global, wanted: &'a str, line: &Lin
 
 fn past_read<'a>(rt: &impl Abort, wanted: &'a str, line: &TableLine) -> &'a str {
     match line {
-        TableLine::Symbol(name) => past_named(rt, wanted, "symbol ", name),
-        TableLine::Element { name, text } => past_element(rt, wanted, name, text),
-        TableLine::Equivalence { name, symbol } => past_second(rt, wanted, name, symbol),
+        TableLine::Symbol(name) => past_named(rt, wanted, "symbol ", name.get()),
+        TableLine::Element { name, text } => past_element(rt, wanted, name.get(), text.get()),
+        TableLine::Equivalence { name, symbol } => {
+            past_two(rt, wanted, "second ", name.get(), symbol.get())
+        }
         TableLine::OrderStart { section, rules } => past_start(rt, wanted, section, rules),
         TableLine::OrderEnd => past(rt, wanted, "order_end"),
-        TableLine::Section(name) => past_named(rt, wanted, "section ", name),
+        TableLine::Section(name) => past_named(rt, wanted, "section ", name.get()),
         TableLine::Script => past(rt, wanted, "script"),
         TableLine::EndCategory => past(rt, wanted, "END"),
         TableLine::Order(line) => past_order(rt, wanted, line),

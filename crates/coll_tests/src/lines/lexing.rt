@@ -13,19 +13,14 @@ use std::alloc::Global;
 use std::mem;
 use std::process::Abort;
 
-// What is left of a wanted text behind a piece of a string.
-fn past_piece<'a>(rt: &impl Abort, wanted: &'a str, piece: &Piece) -> &'a str {
-    match piece {
-        Piece::Char(c) => past_char(rt, wanted, *c),
-        Piece::Name(name) => past_name(rt, wanted, name.get()),
-    }
-}
-
-// .. behind a string.
+// What is left of a wanted text behind a string.
 fn past_string<'a>(rt: &impl Abort, wanted: &'a str, pieces: &[Piece]) -> &'a str {
     let mut rest = past(rt, wanted, "\"");
     for piece in pieces {
-        rest = past_piece(rt, rest, piece);
+        rest = match piece {
+            Piece::Char(c) => past_char(rt, rest, *c),
+            Piece::Name(name) => past_name(rt, rest, name.get()),
+        };
     }
     past(rt, rest, "\"")
 }
@@ -52,17 +47,13 @@ fn assert_line(rt: &impl Abort, line: &Line, wanted: &str) {
     assert_same(rt, wanted, rest, "");
 }
 
-fn assert_answer(rt: &impl Abort, given: &Result<Option<Line>, LexFault>, wanted: &str) {
-    match given {
+fn assert_fed(rt: &impl Abort, lexer: &mut Lexer, line: &str, wanted: &str) {
+    let given = lexer.feed(line.as_bytes());
+    match &given {
         Ok(Some(line)) => assert_line(rt, line, wanted),
         Ok(None) => assert_same(rt, "no line", "-", wanted),
         Err(fault) => assert_same(rt, "a fault", fault.name(), wanted),
     }
-}
-
-fn assert_fed(rt: &impl Abort, lexer: &mut Lexer, line: &str, wanted: &str) {
-    let given = lexer.feed(line.as_bytes());
-    assert_answer(rt, &given, wanted);
     drop(given);
 }
 
@@ -76,6 +67,10 @@ fn assert_end(rt: &impl Abort, alloc: Global, lexer: &mut Lexer, wanted: &str) {
     drop(mem::replace(lexer, new_lexer(rt, alloc)));
 }
 
+fn new_lexer(rt: &impl Abort, alloc: Global) -> Lexer {
+    Lexer::new(alloc).expect(rt, "a lexer")
+}
+
 fn assert_row(rt: &impl Abort, alloc: Global, lexer: &mut Lexer, row: &str) {
     match row.split_once(" => ") {
         Some((line, wanted)) => assert_fed(rt, lexer, line, wanted),
@@ -84,14 +79,12 @@ fn assert_row(rt: &impl Abort, alloc: Global, lexer: &mut Lexer, row: &str) {
     }
 }
 
-fn new_lexer(rt: &impl Abort, alloc: Global) -> Lexer {
-    Lexer::new(alloc).expect(rt, "a lexer")
-}
-
-fn assert_rows(rt: &impl Abort, alloc: Global, lexer: &mut Lexer, rows: &str) {
+fn assert_rows(rt: &impl Abort, alloc: Global, rows: &str) {
+    let mut lexer = new_lexer(rt, alloc);
     for row in rows.split('\n') {
-        assert_row(rt, alloc, lexer, row);
+        assert_row(rt, alloc, &mut lexer, row);
     }
+    drop(lexer);
 }
 
 const LINES: &str = r#"-- Words, strings and symbols go on in the next line.
@@ -330,10 +323,8 @@ end";
 
 #[test]
 fn each_line_has_its_answer(rt: HostRuntime) {
-    let mut lexer = new_lexer(&rt, rt.alloc());
-    assert_rows(&rt, rt.alloc(), &mut lexer, LINES);
-    assert_rows(&rt, rt.alloc(), &mut lexer, LINES_WITH_ESCAPES);
-    drop(lexer);
+    assert_rows(&rt, rt.alloc(), LINES);
+    assert_rows(&rt, rt.alloc(), LINES_WITH_ESCAPES);
 }
 
 // What a line is handed to.
@@ -429,36 +420,28 @@ fn assert_call(rt: &impl Abort, alloc: Global, lexer: &mut Lexer, call: &Call) {
     drop(line);
 }
 
-fn assert_calls(rt: &impl Abort, alloc: Global, lexer: &mut Lexer) {
-    assert_same(rt, "at first", lexer.pending(), None);
-    for call in CALLS {
-        assert_call(rt, alloc, lexer, call);
-    }
-    let Chars { comment, escape } = lexer.chars();
-    assert_same(rt, "the comment character", comment, '%');
-    assert_same(rt, "the escape character", escape, '/');
-}
-
 #[test]
 fn each_call_has_its_answer(rt: HostRuntime) {
     let mut lexer = new_lexer(&rt, rt.alloc());
-    assert_calls(&rt, rt.alloc(), &mut lexer);
-    drop(lexer);
-}
-
-// Asserts that a text has the most lines, and not one more.
-fn assert_most_lines(rt: &impl Abort, lexer: &mut Lexer) {
-    for _ in 0..4_194_304 {
-        assert_same(rt, "a line", feed(lexer, b""), Ok(false));
+    assert_same(&rt, "at first", lexer.pending(), None);
+    for call in CALLS {
+        assert_call(&rt, rt.alloc(), &mut lexer, call);
     }
-    let refused = Err(LexFault::TooManyLines);
-    assert_same(rt, "one more", feed(lexer, b""), refused);
-    assert_same(rt, "and another", feed(lexer, b""), refused);
+    let Chars { comment, escape } = lexer.chars();
+    drop(lexer);
+    assert_same(&rt, "the comment character", comment, '%');
+    assert_same(&rt, "the escape character", escape, '/');
 }
 
+// And not one more.
 #[test]
 fn a_text_has_at_most_4194304_lines(rt: HostRuntime) {
     let mut lexer = new_lexer(&rt, rt.alloc());
-    assert_most_lines(&rt, &mut lexer);
+    for _ in 0..4_194_304 {
+        assert_same(&rt, "a line", feed(&mut lexer, b""), Ok(false));
+    }
+    let refused = Err(LexFault::TooManyLines);
+    assert_same(&rt, "one more", feed(&mut lexer, b""), refused);
+    assert_same(&rt, "and another", feed(&mut lexer, b""), refused);
     drop(lexer);
 }

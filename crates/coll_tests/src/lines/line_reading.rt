@@ -78,20 +78,7 @@ const ROWS: &[Row] = &[
     ),
 ];
 
-// Asserts that a reader gives a line.
-fn assert_line(
-    rt: &impl Abort,
-    alloc: Global,
-    reader: &mut LineReader,
-    input: &mut Counted<&mut ShortReader>,
-    line: &Physical,
-) {
-    let (part, times) = line;
-    let line = repeated(rt, alloc, b"", part, *times, b"");
-    assert_same(rt, "a line", reader.next(input), Ok(Some(line.as_slice())));
-    drop(line);
-}
-
+// Asserts that a reader gives these lines.
 fn assert_lines(
     rt: &impl Abort,
     alloc: Global,
@@ -99,22 +86,12 @@ fn assert_lines(
     input: &mut Counted<&mut ShortReader>,
     lines: &[Physical],
 ) {
-    for line in lines {
-        assert_line(rt, alloc, reader, input, line);
+    for (part, times) in lines {
+        let line = repeated(rt, alloc, b"", part, *times, b"");
+        assert_same(rt, "a line", reader.next(input), Ok(Some(line.as_slice())));
+        drop(line);
     }
     assert_same(rt, "the errors before", input.errors(), 0);
-}
-
-// Asserts that a reader comes to the end, or stops. The stop is the only error.
-fn assert_ends(
-    rt: &impl Abort,
-    reader: &mut LineReader,
-    input: &mut Counted<&mut ShortReader>,
-    stop: Option<ReadStop>,
-) {
-    assert_same(rt, "the stop", reader.next(input).err(), stop);
-    let failed = stop == Some(ReadStop::ReadFault);
-    assert_same(rt, "the errors", input.errors(), u64::from(failed));
 }
 
 // Asserts that it stays there, has no line, and reads no more.
@@ -131,6 +108,7 @@ fn assert_stays(
     assert_same(rt, "the line", reader.line(), b"".as_slice());
 }
 
+// Asserts that a reader gives the lines of a row, and then comes to the end, or stops. The stop is the only error.
 fn assert_row(rt: &impl Abort, alloc: Global, row: &Row) {
     let ((part, times, rest), script, lines, rounds, stop) = row;
     let text = repeated(rt, alloc, b"", part, *times, rest);
@@ -140,7 +118,9 @@ fn assert_row(rt: &impl Abort, alloc: Global, row: &Row) {
     for _ in 0..*rounds {
         assert_lines(rt, alloc, &mut reader, &mut input, lines);
     }
-    assert_ends(rt, &mut reader, &mut input, *stop);
+    assert_same(rt, "the stop", reader.next(&mut input).err(), *stop);
+    let failed = *stop == Some(ReadStop::ReadFault);
+    assert_same(rt, "the errors", input.errors(), u64::from(failed));
     drop(input);
     assert_stays(rt, &mut reader, &mut device, *stop);
     drop(reader);

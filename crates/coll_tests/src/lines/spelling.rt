@@ -134,23 +134,11 @@ fn write(out: &mut Counted<&mut ShortWriter>, what: &What) -> Option<WriteStop> 
         Name(name) => write_symbol(out, name).err(),
         Char(c) => write_char(out, *c).err(),
         Bytes(bytes) => write_bytes(out, bytes).err(),
-        Flush => stop_of(out.flush().ok()),
+        Flush => match out.flush().ok() {
+            Some(()) => None,
+            None => Some(WriteStop::WriteFault),
+        },
     }
-}
-
-fn stop_of(flushed: Option<()>) -> Option<WriteStop> {
-    match flushed {
-        Some(()) => None,
-        None => Some(WriteStop::WriteFault),
-    }
-}
-
-fn write_all(out: &mut Counted<&mut ShortWriter>, all: &[What]) -> Option<WriteStop> {
-    let mut last = None;
-    for what in all {
-        last = write(out, what);
-    }
-    last
 }
 
 // Asserts what a device takes, in how many calls at most, and that the last write alone fails where it is to.
@@ -164,20 +152,19 @@ fn assert_written(
 ) {
     let mut device = ShortWriter::scripted(Vec::new(alloc), script);
     let mut out = Counted::new(&mut device);
-    let stop = write_all(&mut out, all);
+    let mut stop = None;
+    for what in all {
+        stop = write(&mut out, what);
+    }
     assert_same(rt, taken, out.errors(), u64::from(stop.is_some()));
     drop(out);
     assert_same(rt, taken, device.taken.as_slice(), taken.as_bytes());
     assert_that(rt, taken, device.calls <= calls);
-    assert_same(rt, taken, stop, fails(script));
-}
-
-// The stop of what is written last.
-fn fails(script: Script) -> Option<WriteStop> {
-    match script {
+    let fails = match script {
         Script::ButFor(..) => Some(WriteStop::WriteFault),
         _ => None,
-    }
+    };
+    assert_same(rt, taken, stop, fails);
 }
 
 #[test]

@@ -20,8 +20,11 @@ use std::vec::IntoIter;
 // How many weights an entry may have.
 const LEVELS: usize = 3;
 
-/// An order line, and what is told of it.
-pub type ToldLine = (OrderLine, bool);
+/// An order line that is placed, whether its identifier wasn't placed before, and why it couldn't be declared, if it couldn't.
+pub type PlacedLine = (OrderLine, bool, Option<SourceFault>);
+
+/// An order line, and whether all that its weights named was placed, and stands for nothing else.
+pub type WeighedLine = (OrderLine, bool);
 
 /// What a source means, and what it places.
 pub trait Form: Drop {
@@ -34,29 +37,21 @@ pub trait Form: Drop {
     /// An order line, whose identifier is what it stands for.
     fn meant(&self, line: OrderLine) -> Result<OrderLine, AllocError>;
 
-    /// Declares what has an order line and isn't declared.
-    fn declare(
-        &mut self,
-        place: SourcePlace,
-        id: &Id,
-        report: &mut Report,
-    ) -> Result<(), SourceFault>;
-
-    /// Places an order line, without the weights of a symbol. The answer has whether its identifier wasn't placed.
+    /// Declares what has an order line and isn't declared, and places the line, without the weights of a symbol.
     fn put(
         &mut self,
         place: SourcePlace,
         line: OrderLine,
         report: &mut Report,
-    ) -> Result<ToldLine, SourceFault>;
+    ) -> Result<PlacedLine, SourceFault>;
 
-    /// An order line whose weights name what is placed. The answer has whether all that they named was placed, and stands for nothing else.
+    /// An order line whose weights name what is placed.
     fn weighed(
         &mut self,
         place: SourcePlace,
         line: OrderLine,
         report: &mut Report,
-    ) -> Result<ToldLine, SourceFault>;
+    ) -> Result<WeighedLine, SourceFault>;
 
     /// What lines declare, one by one.
     fn declared(&mut self) -> Result<Vec<SourceStatement>, AllocError>;
@@ -84,24 +79,16 @@ impl Form for Plain {
         self.meanings.meant(line)
     }
 
-    fn declare(
-        &mut self,
-        place: SourcePlace,
-        id: &Id,
-        report: &mut Report,
-    ) -> Result<(), SourceFault> {
-        self.meanings.declare_placed(place, id, report)
-    }
-
     fn put(
         &mut self,
         place: SourcePlace,
         line: OrderLine,
         report: &mut Report,
-    ) -> Result<ToldLine, SourceFault> {
+    ) -> Result<PlacedLine, SourceFault> {
+        let fault = self.meanings.declare_placed(place, &line.id, report).err();
         let line = plain_without_symbol_weights(&self.meanings, place, line, report)?;
         let is_new = self.placed.put_free(&line.id)?;
-        Ok((line, is_new))
+        Ok((line, is_new, fault))
     }
 
     fn weighed(
@@ -109,7 +96,7 @@ impl Form for Plain {
         place: SourcePlace,
         line: OrderLine,
         report: &mut Report,
-    ) -> Result<ToldLine, SourceFault> {
+    ) -> Result<WeighedLine, SourceFault> {
         let look_up = PlainLookUp {
             meanings: &self.meanings,
             placed: &self.placed,
@@ -156,28 +143,20 @@ impl Form for Named {
         self.meanings.meant(line)
     }
 
-    fn declare(
-        &mut self,
-        place: SourcePlace,
-        id: &Id,
-        report: &mut Report,
-    ) -> Result<(), SourceFault> {
-        self.meanings.declare_placed(place, id, report)
-    }
-
     fn put(
         &mut self,
         place: SourcePlace,
         line: OrderLine,
         report: &mut Report,
-    ) -> Result<ToldLine, SourceFault> {
+    ) -> Result<PlacedLine, SourceFault> {
+        let fault = self.meanings.declare_placed(place, &line.id, report).err();
         let line = without_symbol_weights(&self.meanings, place, line, report)?;
         let mut is_new = self.ids.put_free(&line.id)?;
         if self.keeps_ranges {
             let found = self.meanings.found_behind(&line.id, &mut self.guess);
             is_new = self.placed.put(found)?;
         }
-        Ok((line, is_new))
+        Ok((line, is_new, fault))
     }
 
     fn weighed(
@@ -185,7 +164,7 @@ impl Form for Named {
         place: SourcePlace,
         line: OrderLine,
         report: &mut Report,
-    ) -> Result<ToldLine, SourceFault> {
+    ) -> Result<WeighedLine, SourceFault> {
         let by_name = WeightLookUp {
             meanings: &self.meanings,
             placed: &self.ids,
@@ -288,21 +267,13 @@ impl Form for Tailored<'_> {
         self.meanings.meant(line)
     }
 
-    fn declare(
-        &mut self,
-        place: SourcePlace,
-        id: &Id,
-        report: &mut Report,
-    ) -> Result<(), SourceFault> {
-        self.meanings.declare_placed(place, id, report)
-    }
-
     fn put(
         &mut self,
         place: SourcePlace,
         line: OrderLine,
         report: &mut Report,
-    ) -> Result<ToldLine, SourceFault> {
+    ) -> Result<PlacedLine, SourceFault> {
+        let fault = self.meanings.declare_placed(place, &line.id, report).err();
         let line = without_weights_of_symbol(&self.meanings, place, line, report)?;
         let look_up = TailoredLookUp {
             meanings: &self.meanings,
@@ -312,7 +283,7 @@ impl Form for Tailored<'_> {
         };
         let is_placed = look_up.is_placed(&line.id);
         self.placed.put(&line.id)?;
-        Ok((line, !is_placed))
+        Ok((line, !is_placed, fault))
     }
 
     fn weighed(
@@ -320,7 +291,7 @@ impl Form for Tailored<'_> {
         place: SourcePlace,
         line: OrderLine,
         report: &mut Report,
-    ) -> Result<ToldLine, SourceFault> {
+    ) -> Result<WeighedLine, SourceFault> {
         let look_up = TailoredLookUp {
             meanings: &self.meanings,
             placed: &self.placed,
@@ -353,32 +324,26 @@ pub fn plain_form(rt: &impl Abort, alloc: Global, table: Option<&Table>, placed:
     }
 }
 
-/// Names one by one, over a table of which these are placed, if one is given.
-pub fn by_name(rt: &impl Abort, alloc: Global, table: Option<&Table>, placed: &[Id]) -> Named {
+/// Names one by one, over a table of which these are placed, if one is given; or else ranges as they are, where they can be, and what is
+/// placed by what was found of it.
+pub fn named_form(
+    rt: &impl Abort,
+    alloc: Global,
+    table: Option<&Table>,
+    placed: &[Id],
+    keeps_ranges: bool,
+) -> Named {
     let keys = HashKeys::zeros();
     let meanings = match table {
         Some(table) => Meanings::of_table(alloc, keys, table).expect(rt, "meanings"),
+        None if keeps_ranges => Meanings::keeping_ranges(alloc, keys),
         None => Meanings::new(alloc, keys),
     };
     Named {
         meanings,
-        keeps_ranges: false,
+        keeps_ranges,
         placed: Placed::new(alloc, keys),
         ids: set_of(rt, alloc, placed),
-        guess: NameGuess::new(),
-        last: LastNames::new(alloc),
-        alloc,
-    }
-}
-
-/// Ranges as they are, where they can be, and what is placed by what was found of it.
-pub fn by_number(alloc: Global) -> Named {
-    let keys = HashKeys::zeros();
-    Named {
-        meanings: Meanings::keeping_ranges(alloc, keys),
-        keeps_ranges: true,
-        placed: Placed::new(alloc, keys),
-        ids: IdSet::new(alloc, keys),
         guess: NameGuess::new(),
         last: LastNames::new(alloc),
         alloc,

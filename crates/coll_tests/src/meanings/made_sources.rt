@@ -7,7 +7,7 @@ use crate::random::Random;
 use coll_lex::Counted;
 use coll_sources::{SourceKind, SourceLine, SourceReader};
 use coll_table::HashKeys;
-use std::alloc::{AllocError, Global};
+use std::alloc::Global;
 use std::process::Abort;
 
 // What names begin with: with two digits behind it a name has up to 19 bytes, and each length around 16. The first three come as often
@@ -106,130 +106,128 @@ impl Made {
     }
 
     /// Puts a text behind what is made.
-    pub fn push(&mut self, text: &[u8]) -> Result<(), AllocError> {
-        self.text.extend_from_slice(text)?;
-        Ok(())
+    pub fn push(&mut self, rt: &impl Abort, text: &[u8]) {
+        self.text.extend_from_slice(text).expect(rt, "a text");
     }
 
     // Puts the name of a number, of two hexadecimal digits, behind what is made.
-    fn push_name(&mut self, number: usize) -> Result<(), AllocError> {
+    fn push_name(&mut self, rt: &impl Abort, number: usize) {
         self.number = number;
-        self.text.push(b'<')?;
-        self.text.extend_from_slice(self.front.as_bytes())?;
-        self.text.push(digit(number / 16, self.is_lower))?;
-        self.text.push(digit(number, self.is_lower))?;
-        self.text.push(b'>')?;
-        Ok(())
+        self.text.push(b'<').expect(rt, "a text");
+        self.text
+            .extend_from_slice(self.front.as_bytes())
+            .expect(rt, "a text");
+        self.text
+            .push(digit(number / 16, self.is_lower))
+            .expect(rt, "a text");
+        self.text
+            .push(digit(number, self.is_lower))
+            .expect(rt, "a text");
+        self.text.push(b'>').expect(rt, "a text");
     }
 
     // Puts the first name of a range, below a number, behind what is made.
-    fn push_first(&mut self, limit: usize) -> Result<(), AllocError> {
+    fn push_first(&mut self, rt: &impl Abort, limit: usize) {
         self.front = self.random.one_of(FRONTS);
         self.is_lower = self.random.is_so(10);
         let number = self.random.below(limit);
-        self.push_name(number)
+        self.push_name(rt, number);
     }
 
     // Puts one of these behind what is made.
-    fn push_one(&mut self, words: &[&str]) -> Result<(), AllocError> {
+    fn push_one(&mut self, rt: &impl Abort, words: &[&str]) {
         let word = self.random.one_of(words);
-        self.push(word.as_bytes())
+        self.push(rt, word.as_bytes());
     }
 
     // Puts what a mark of a pattern stands for behind what is made, or the mark itself, where it stands for nothing.
-    fn push_mark(&mut self, mark: u8) -> Result<(), AllocError> {
+    fn push_mark(&mut self, rt: &impl Abort, mark: u8) {
         match mark {
-            b'@' if self.random.is_so(25) => self.push_one(CHARS),
-            b'#' | b'@' if self.random.is_so(25) => self.push_one(ALONE),
-            b'#' | b'@' => self.push_first(72),
-            b'$' => self.push_one(STRINGS),
-            b'[' => self.push_first(64),
+            b'@' if self.random.is_so(25) => self.push_one(rt, CHARS),
+            b'#' | b'@' if self.random.is_so(25) => self.push_one(rt, ALONE),
+            b'#' | b'@' => self.push_first(rt, 72),
+            b'$' => self.push_one(rt, STRINGS),
+            b'[' => self.push_first(rt, 64),
             b']' => {
                 self.is_lower = self.random.is_so(20);
                 let last = self.number.saturating_add(self.random.below(18));
-                self.push_name(last)
+                self.push_name(rt, last);
             }
-            b'(' => self.push_first(10),
+            b'(' => self.push_first(rt, 10),
             b')' => {
                 let last = self.random.below(10).saturating_add(16);
-                self.push_name(last)
+                self.push_name(rt, last);
             }
-            other => self.push(&[other]),
+            other => self.push(rt, &[other]),
         }
     }
 
     // Puts one of these patterns behind what is made.
-    fn push_pattern(&mut self, patterns: &[&str]) -> Result<(), AllocError> {
+    fn push_pattern(&mut self, rt: &impl Abort, patterns: &[&str]) {
         for mark in self.random.one_of(patterns).as_bytes() {
-            self.push_mark(*mark)?;
+            self.push_mark(rt, *mark);
         }
-        Ok(())
     }
 
     /// So many declarations at most.
-    pub fn declarations(&mut self, most: usize) -> Result<(), AllocError> {
+    pub fn declarations(&mut self, rt: &impl Abort, most: usize) {
         for _ in 0..self.random.below(most).saturating_add(1) {
-            self.push_pattern(DECLARATIONS)?;
+            self.push_pattern(rt, DECLARATIONS);
         }
-        Ok(())
     }
 
     // An order line, with up to one weight more than there are levels.
-    fn order(&mut self) -> Result<(), AllocError> {
-        self.push_pattern(&["@"])?;
+    fn order(&mut self, rt: &impl Abort) {
+        self.push_pattern(rt, &["@"]);
         if self.random.is_so(70) {
-            self.push_pattern(&[" "])?;
+            self.push_pattern(rt, &[" "]);
             for _ in 0..self.random.below(4) {
-                self.push_pattern(WEIGHTS)?;
-                self.push(b";")?;
+                self.push_pattern(rt, WEIGHTS);
+                self.push(rt, b";");
             }
-            self.push_pattern(WEIGHTS)?;
+            self.push_pattern(rt, WEIGHTS);
         }
-        self.push(b"\n")
+        self.push(rt, b"\n");
     }
 
     /// So many order lines.
-    pub fn orders(&mut self, count: usize) -> Result<(), AllocError> {
+    pub fn orders(&mut self, rt: &impl Abort, count: usize) {
         for _ in 0..count {
-            self.order()?;
+            self.order(rt);
         }
-        Ok(())
     }
 
     // Puts a text behind what is made, in which `#` stands for the three digits of a name: two of a number, and one more.
-    fn push_far(&mut self, text: &str, high: usize, low: usize) -> Result<(), AllocError> {
+    fn push_far(&mut self, rt: &impl Abort, text: &str, high: usize, low: usize) {
         for mark in text.as_bytes() {
             match *mark {
                 b'#' => {
-                    self.text.push(digit(high / 16, false))?;
-                    self.text.push(digit(high, false))?;
-                    self.text.push(digit(low, false))?;
+                    self.text.push(digit(high / 16, false)).expect(rt, "a text");
+                    self.text.push(digit(high, false)).expect(rt, "a text");
+                    self.text.push(digit(low, false)).expect(rt, "a text");
                 }
-                other => self.text.push(other)?,
+                other => self.text.push(other).expect(rt, "a text"),
             }
         }
-        Ok(())
     }
 
     // A range of few names, far from those of other numbers, and order lines of its first and its last name and of those beside them, each
     // of which is also the weight of a character.
-    fn far_range(&mut self, high: usize, orders: &mut Made) -> Result<(), AllocError> {
+    fn far_range(&mut self, rt: &impl Abort, high: usize, orders: &mut Made) {
         let last = self.random.below(4).saturating_add(1);
-        self.push_far("collating-symbol <S#>..", high, 1)?;
-        self.push_far("<S#>\n", high, last)?;
+        self.push_far(rt, "collating-symbol <S#>..", high, 1);
+        self.push_far(rt, "<S#>\n", high, last);
         for low in [0, 1, last, last.saturating_add(1)] {
-            orders.push_far("<S#>\n<U4#> <S#>\n", high, low)?;
+            orders.push_far(rt, "<S#>\n<U4#> <S#>\n", high, low);
         }
-        Ok(())
     }
 
     /// So many ranges that are far from each other, in some order; their order lines go to another text.
-    pub fn far_ranges(&mut self, count: usize, orders: &mut Made) -> Result<(), AllocError> {
+    pub fn far_ranges(&mut self, rt: &impl Abort, count: usize, orders: &mut Made) {
         for number in 0..count {
             // 89 and 256 have no common divisor, so each range is another one.
-            self.far_range(number.wrapping_mul(89), orders)?;
+            self.far_range(rt, number.wrapping_mul(89), orders);
         }
-        Ok(())
     }
 
     /// Ends the text.

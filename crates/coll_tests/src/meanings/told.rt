@@ -74,24 +74,20 @@ fn tell_tallies(rt: &impl Abort, alloc: Global, report: &Report, text: &mut Vec<
     }
 }
 
-// A copy of weights.
-fn copied_weights(rt: &impl Abort, alloc: Global, weights: &[Weight]) -> ListBuf<Weight> {
+// A copy of an order line.
+fn copied(rt: &impl Abort, alloc: Global, line: &OrderLine) -> OrderLine {
+    let id = line.id.clone().expect(rt, "an identifier");
+    let Some(weights) = &line.weights else {
+        return OrderLine { id, weights: None };
+    };
     let mut copies = Vec::new(alloc);
-    for weight in weights {
+    for weight in weights.get() {
         let copy = weight.clone().expect(rt, "a weight");
         copies.push(copy).expect(rt, "weights");
     }
-    ListBuf::new(copies)
-}
-
-// A copy of an order line.
-fn copied(rt: &impl Abort, alloc: Global, line: &OrderLine) -> OrderLine {
     OrderLine {
-        id: line.id.clone().expect(rt, "an identifier"),
-        weights: line
-            .weights
-            .as_ref()
-            .map(|weights| copied_weights(rt, alloc, weights.get())),
+        id,
+        weights: Some(ListBuf::new(copies)),
     }
 }
 
@@ -118,8 +114,7 @@ impl<F: Form> Work<F> {
     fn place_all(&mut self, rt: &impl Abort, lines: &[SourceLine]) {
         for line in lines {
             if let Said::Order(order) = &line.said {
-                let copy = copied(rt, self.alloc, order);
-                self.place(rt, line.place, copy);
+                self.place(rt, line.place, copied(rt, self.alloc, order));
             }
         }
     }
@@ -129,11 +124,11 @@ impl<F: Form> Work<F> {
         let meaning = self.form.meaning(&line.id).expect(rt, "a meaning");
         tell(rt, self.alloc, meaning, &mut self.text);
         let line = self.form.meant(line).expect(rt, "an order line");
-        if let Err(fault) = self.form.declare(place, &line.id, &mut self.report) {
+        let put = self.form.put(place, line, &mut self.report);
+        let (line, is_new, fault) = put.expect(rt, "a place");
+        if let Some(fault) = fault {
             tell_fault(rt, self.alloc, fault, &mut self.text);
         }
-        let put = self.form.put(place, line, &mut self.report);
-        let (line, is_new) = put.expect(rt, "a place");
         tell(rt, self.alloc, is_new, &mut self.text);
         if is_new {
             self.placed.push((place, line)).expect(rt, "a placed line");

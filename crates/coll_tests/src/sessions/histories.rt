@@ -186,14 +186,6 @@ const SESSIONS: &[(Lines, &[Call])] = &[
     ),
 ];
 
-// The refusal of a table, if a session answers one.
-fn refusal_of(answer: Result<u32, BenchFault>) -> Result<(), Refusal> {
-    match answer {
-        Err(BenchFault::Table(refusal)) => Err(refusal),
-        _ => Ok(()),
-    }
-}
-
 // Asserts what a table answers to a statement that it only judges, and which text it has then.
 fn assert_checked<R: Abort + Print>(
     rt: &R,
@@ -293,21 +285,16 @@ fn counted_statement<R: Abort + Print>(
     lines: &[&str],
     wrong: Wrong,
 ) -> Result<u32, BenchFault> {
-    let statement = statement_of(rt, alloc, lines);
     if let Wrong::LosesUndone = wrong {
-        lose_undone(rt, alloc, session);
+        let block = statement_of(rt, alloc, &["reorder-after <U0061>"]);
+        assert_that(rt, "a block", session.statement(block).is_ok());
+        assert_that(rt, "an undo", session.undo().is_ok());
     }
+    let statement = statement_of(rt, alloc, lines);
     count_growths(rt);
     let answer = session.statement(statement);
     count_no_growths(rt);
     answer
-}
-
-// Has what was taken back replaced by another statement.
-fn lose_undone(rt: &impl Abort, alloc: Global, session: &mut Session) {
-    let statement = statement_of(rt, alloc, &["reorder-after <U0061>"]);
-    assert_that(rt, "a block", session.statement(statement).is_ok());
-    assert_that(rt, "an undo", session.undo().is_ok());
 }
 
 // What a session answers to an undo.
@@ -319,21 +306,11 @@ fn counted_undo<R: Abort + Print>(
 ) -> Result<u32, BenchFault> {
     count_growths(rt);
     let answer = match wrong {
-        Wrong::GrowsByUndo => undo_by_growing(alloc, session),
+        Wrong::GrowsByUndo if Vec::<u64>::with_capacity(alloc, 1).is_err() => NO_MEMORY,
         _ => session.undo(),
     };
     count_no_growths(rt);
     answer
-}
-
-fn undo_by_growing(alloc: Global, session: &mut Session) -> Result<u32, BenchFault> {
-    match Vec::<u64>::with_capacity(alloc, 1) {
-        Ok(list) => {
-            drop(list);
-            session.undo()
-        }
-        Err(_) => NO_MEMORY,
-    }
 }
 
 // How a session stands: the text of its table, how many statements remain and were taken back, and the nearest of each.
@@ -358,7 +335,11 @@ fn assert_stated<R: Abort + Print>(
     answer: Result<u32, BenchFault>,
     wrong: Wrong,
 ) {
-    assert_judged(rt, alloc, session.table(), lines, refusal_of(answer));
+    let judged = match answer {
+        Err(BenchFault::Table(refusal)) => Err(refusal),
+        _ => Ok(()),
+    };
+    assert_judged(rt, alloc, session.table(), lines, judged);
     let before = standing(rt, alloc, session);
     let mut given = counted_statement(rt, alloc, session, lines, wrong);
     if given == NO_MEMORY {
@@ -473,22 +454,13 @@ fn declares(statement: Option<&Statement>, symbol: &str) -> bool {
     matches!(statement, Some(Statement::Symbol(name)) if name.get() == symbol)
 }
 
-// Asserts how many statements remain and were taken back, and which are the first of each.
-fn assert_first(rt: &impl Abort, session: &Session, remaining: &str, undone: &str) {
-    assert_that(rt, remaining, declares(session.remaining(1), remaining));
-    assert_that(rt, undone, declares(session.undone(1), undone));
-    assert_that(rt, "none remains at 0", session.remaining(0).is_none());
-    assert_that(rt, "none was undone at 0", session.undone(0).is_none());
-    assert_that(rt, "one remains", session.remaining(2).is_none());
-    assert_that(rt, "two were undone", session.undone(3).is_none());
-}
-
 const DECLARATIONS: &[Lines] = &[
     &["collating-symbol <X>"],
     &["collating-symbol <Y>"],
     &["collating-symbol <Z>"],
 ];
 
+// Asserts how many statements remain and were taken back, and which are the first of each.
 fn assert_history(rt: &impl Abort, alloc: Global, session: &mut Session) {
     for lines in DECLARATIONS {
         let answer = session.statement(statement_of(rt, alloc, lines));
@@ -498,7 +470,12 @@ fn assert_history(rt: &impl Abort, alloc: Global, session: &mut Session) {
     assert_same(rt, "an undo", session.undo(), Ok(1));
     assert_same(rt, "what remains", session.remaining_len(), 1);
     assert_same(rt, "what was taken back", session.undone_len(), 2);
-    assert_first(rt, session, "X", "Y");
+    assert_that(rt, "X remains", declares(session.remaining(1), "X"));
+    assert_that(rt, "Y was undone", declares(session.undone(1), "Y"));
+    assert_that(rt, "none remains at 0", session.remaining(0).is_none());
+    assert_that(rt, "none was undone at 0", session.undone(0).is_none());
+    assert_that(rt, "one remains", session.remaining(2).is_none());
+    assert_that(rt, "two were undone", session.undone(3).is_none());
 }
 
 #[test]

@@ -1,6 +1,7 @@
 //! Transcripts of sessions over the base table: lines, and behind the line that completes it, each line of a reply.
 //!
-//! A line of a reply begins with a bar; `| the base table` stands for all lines of that table.
+//! A line of a reply begins with a bar; `| the base table` stands for all lines of that table. A row that begins with `--` says what a
+//! session shows.
 
 use crate::tables::examples::{BASE_TABLE, push_lines};
 use std::alloc::Global;
@@ -100,49 +101,41 @@ pub enum Session {
     History,
 }
 
-/// Each of them.
-pub const SESSIONS: &[Session] = &[Session::Moved, Session::Element, Session::History];
-
 impl Session {
-    fn transcript(self) -> &'static str {
-        match self {
+    /// The whole text, and the replies to the lines that end within so many of its bytes.
+    pub fn course(self, rt: &impl Abort, alloc: Global, bytes: usize) -> Course {
+        let transcript = match self {
             Session::Moved => MOVED,
             Session::Element => ELEMENT,
             Session::History => HISTORY,
-        }
-    }
-
-    /// The whole text, and the replies to the lines that end within so many of its bytes.
-    pub fn course(self, rt: &impl Abort, alloc: Global, bytes: usize) -> Course {
-        let mut course = Course {
-            text: Vec::new(alloc),
-            replies: Vec::new(alloc),
         };
-        for row in self.transcript().split('\n') {
-            course.push(rt, row, bytes);
-        }
-        course
+        course_of(rt, alloc, transcript, bytes)
     }
+}
+
+/// The whole text of a transcript, and the replies to the lines that end within so many of its bytes.
+pub fn course_of(rt: &impl Abort, alloc: Global, transcript: &str, bytes: usize) -> Course {
+    let mut course = Course {
+        text: Vec::new(alloc),
+        replies: Vec::new(alloc),
+    };
+    for row in transcript.split('\n') {
+        course.push(rt, row, bytes);
+    }
+    course
 }
 
 impl Course {
+    // Puts a row behind the text or the replies, unless it is a reply to a line that ends later.
     fn push(&mut self, rt: &impl Abort, row: &str, bytes: usize) {
         match row.strip_prefix("| ") {
-            None => push_line(rt, &mut self.text, row),
-            Some(reply) if self.text.len() <= bytes => push_reply(rt, &mut self.replies, reply),
-            Some(_) => (),
+            None if row.starts_with("--") => (),
+            None => push_lines(rt, &mut self.text, &[row]),
+            Some(_) if self.text.len() > bytes => (),
+            Some(reply) if reply == "the base table" => {
+                push_lines(rt, &mut self.replies, BASE_TABLE);
+            }
+            Some(reply) => push_lines(rt, &mut self.replies, &[reply]),
         }
-    }
-}
-
-fn push_line(rt: &impl Abort, text: &mut Vec<u8>, line: &str) {
-    push_lines(text, &[line]).expect(rt, "room");
-}
-
-fn push_reply(rt: &impl Abort, replies: &mut Vec<u8>, reply: &str) {
-    if reply == "the base table" {
-        push_lines(replies, BASE_TABLE).expect(rt, "room");
-    } else {
-        push_line(rt, replies, reply);
     }
 }

@@ -123,17 +123,13 @@ fn assert_turns(
     drop(record);
 }
 
-fn assert_turned(rt: &impl Abort, alloc: Global, row: &Turned) {
-    let mut table = rewritten(rt, alloc, row.table, row.before);
-    let statement = statement_of(rt, alloc, row.statement);
-    assert_turns(rt, alloc, &mut table, &statement, row.steps);
-    drop(statement);
-    drop(table);
-}
-
 #[test]
 fn a_statement_is_turned_by_the_steps_of_its_own_nodes(rt: HostRuntime) {
     for row in TURNED {
-        assert_turned(&rt, rt.alloc(), row);
+        let mut table = rewritten(&rt, rt.alloc(), row.table, row.before);
+        let statement = statement_of(&rt, rt.alloc(), row.statement);
+        assert_turns(&rt, rt.alloc(), &mut table, &statement, row.steps);
+        drop(statement);
+        drop(table);
     }
 }

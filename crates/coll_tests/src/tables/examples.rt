@@ -7,7 +7,7 @@ use crate::statements::{Lines, statement_of};
 use coll_lex::{Counted, TextBuf};
 use coll_syntax::Id;
 use coll_table::{LoadFault, Loader, Table, load};
-use std::alloc::{AllocError, Global};
+use std::alloc::Global;
 use std::process::Abort;
 
 /// A name and three characters, line by line.
@@ -181,8 +181,8 @@ pub fn loaded(alloc: Global, text: &[u8]) -> Result<Table, LoadFault> {
     load(alloc, &mut Counted::new(text))
 }
 
-/// Hands lines to a loader.
-pub fn hand_in(loader: &mut Loader, lines: &[&str]) -> Result<(), LoadFault> {
+// Hands lines to a loader.
+fn hand_in(loader: &mut Loader, lines: &[&str]) -> Result<(), LoadFault> {
     for line in lines {
         loader.line(line.as_bytes())?;
     }
@@ -235,60 +235,53 @@ pub struct Change {
 }
 
 impl Change {
-    // The lines before those that are changed.
-    fn prefix<'a>(&self, lines: &'a [&'static str]) -> &'a [&'static str] {
-        &lines[..self.first.saturating_sub(1).min(lines.len())]
-    }
-
-    // The lines behind those that are changed.
-    fn rest<'a>(&self, lines: &'a [&'static str]) -> &'a [&'static str] {
-        &lines[self.last.min(lines.len())..]
-    }
-
-    // Hands the changed lines to a loader.
-    fn hand_in(&self, loader: &mut Loader, lines: &[&'static str]) -> Result<(), LoadFault> {
-        hand_in(loader, self.prefix(lines))?;
-        hand_in(loader, self.others)?;
-        hand_in(loader, self.rest(lines))
+    // The lines before those that are changed, and those behind them.
+    fn kept<'a>(&self, lines: &'a [&'static str]) -> (&'a [&'static str], &'a [&'static str]) {
+        let prefix = &lines[..self.first.saturating_sub(1).min(lines.len())];
+        (prefix, &lines[self.last.min(lines.len())..])
     }
 
     /// The table that these lines are once they are changed.
     pub fn loaded(&self, alloc: Global, lines: &[&'static str]) -> Result<Table, LoadFault> {
+        let (prefix, rest) = self.kept(lines);
         let mut loader = Loader::new(alloc)?;
-        let _ = self.hand_in(&mut loader, lines);
+        // A fault is stored, and answered again by each later line and at the end.
+        let _ = hand_in(&mut loader, prefix);
+        let _ = hand_in(&mut loader, self.others);
+        let _ = hand_in(&mut loader, rest);
         loader.finish()
     }
 
     /// The changed lines behind a text.
-    pub fn push(&self, text: &mut Vec<u8>, lines: &[&'static str]) -> Result<(), AllocError> {
-        push_lines(text, self.prefix(lines))?;
-        push_lines(text, self.others)?;
-        push_lines(text, self.rest(lines))
+    pub fn push(&self, rt: &impl Abort, text: &mut Vec<u8>, lines: &[&'static str]) {
+        let (prefix, rest) = self.kept(lines);
+        push_lines(rt, text, prefix);
+        push_lines(rt, text, self.others);
+        push_lines(rt, text, rest);
     }
 }
 
 /// Lines as one text, each with its line feed.
-pub fn text_of(alloc: Global, lines: &[&str]) -> Result<Vec<u8>, AllocError> {
+pub fn text_of(rt: &impl Abort, alloc: Global, lines: &[&str]) -> Vec<u8> {
     let mut text = Vec::new(alloc);
-    push_lines(&mut text, lines)?;
-    Ok(text)
+    push_lines(rt, &mut text, lines);
+    text
 }
 
 /// Lines behind a text, each with its line feed.
-pub fn push_lines(text: &mut Vec<u8>, lines: &[&str]) -> Result<(), AllocError> {
+pub fn push_lines(rt: &impl Abort, text: &mut Vec<u8>, lines: &[&str]) {
     for line in lines {
-        text.extend_from_slice(line.as_bytes())?;
-        text.push(b'\n')?;
+        text.extend_from_slice(line.as_bytes()).expect(rt, line);
+        text.push(b'\n').expect(rt, line);
     }
-    Ok(())
 }
 
 /// The identifier of a text: a character, `UNDEFINED`, or else a name.
-pub fn id(alloc: Global, text: &str) -> Result<Id, AllocError> {
+pub fn id(rt: &impl Abort, alloc: Global, text: &str) -> Id {
     let mut characters = text.chars();
     match (characters.next(), characters.next()) {
-        (Some(c), None) => Ok(Id::Char(c)),
-        _ if text == "UNDEFINED" => Ok(Id::Undefined),
-        _ => Ok(Id::Named(TextBuf::new(String::from_str(alloc, text)?))),
+        (Some(c), None) => Id::Char(c),
+        _ if text == "UNDEFINED" => Id::Undefined,
+        _ => Id::Named(TextBuf::new(String::from_str(alloc, text).expect(rt, text))),
     }
 }

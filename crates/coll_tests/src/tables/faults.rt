@@ -6,8 +6,6 @@ use crate::tables::examples::{BASE_TABLE, Change, SPELLED_OTHERWISE, TWO_SECTION
 use coll_lex::LexFault;
 use coll_syntax::SyntaxFault;
 use coll_table::{LoadCause, LoadFault};
-use std::alloc::Global;
-use std::process::Abort;
 
 // The lines of a table, a change of them, and the fault of the changed ones.
 struct Changed {
@@ -340,19 +338,19 @@ const CHANGES: &[Changed] = &[
     },
 ];
 
-// Asserts that the lines so changed aren't a table, handed in line by line and as one text.
-fn assert_fault(rt: &impl Abort, alloc: Global, row: &Changed) {
-    let given = row.change.loaded(alloc, row.lines).err();
-    assert_same(rt, row.fault, given, Some(row.fault));
-    let mut text = Vec::new(alloc);
-    row.change.push(&mut text, row.lines).expect(rt, "a text");
-    let given = loaded(alloc, &text).err();
-    assert_same(rt, row.fault, given, Some(row.fault));
-}
-
+// The lines so changed aren't a table, handed in line by line and as one text.
 #[test]
 fn each_change_has_its_fault(rt: HostRuntime) {
-    for row in CHANGES {
-        assert_fault(&rt, rt.alloc(), row);
+    for Changed {
+        lines,
+        change,
+        fault,
+    } in CHANGES {
+        let given = change.loaded(rt.alloc(), lines).err();
+        assert_same(&rt, *fault, given, Some(*fault));
+        let mut text = Vec::new(rt.alloc());
+        change.push(&rt, &mut text, lines);
+        let given = loaded(rt.alloc(), &text).err();
+        assert_same(&rt, *fault, given, Some(*fault));
     }
 }

@@ -44,7 +44,7 @@ fn assert_reads(rt: &impl Abort, alloc: Global, text: &[u8], fails: Step, reads:
 
 #[test]
 fn a_read_that_fails_within_the_category_is_the_fault(rt: HostRuntime) {
-    let text = text_of(rt.alloc(), BASE_TABLE).expect(&rt, "a text");
+    let text = text_of(&rt, rt.alloc(), BASE_TABLE);
     for fails in FAILED_READS {
         assert_reads(&rt, rt.alloc(), text.as_slice(), *fails, 147);
     }
@@ -61,7 +61,7 @@ fn a_line_read_whole_decides_before_a_later_read(rt: HostRuntime) {
     };
     let alloc = rt.alloc();
     assert_read(&rt, alloc, text, Step::Error, 6, Some(READ_FAULT));
-    let mut input = Counted::new(ShortReader::new(text, 7));
+    let mut input = Counted::new(ShortReader::scripted(text, Script::ButFor(7, Step::Error)));
     assert_same(&rt, "the line", load(alloc, &mut input).err(), Some(fault));
     assert_same(&rt, "the errors", input.errors(), 0);
 }
@@ -126,29 +126,22 @@ euuuuuuuee
 END LC_COLLATE
 xummwwwwwwwww--";
 
-// The fault that a letter stands for.
-fn cause(letter: u8) -> Option<LoadCause> {
-    match letter {
-        b'o' => Some(LoadCause::Lex(LexFault::OpenSymbol)),
-        b'd' => Some(LoadCause::Lex(LexFault::BadCharDirective)),
-        b'u' => Some(LoadCause::Syntax(SyntaxFault::UnknownStatement)),
-        b'm' => Some(LoadCause::Syntax(SyntaxFault::MissingOperand)),
-        b'r' => Some(LoadCause::Syntax(SyntaxFault::BadRule)),
-        b'w' => Some(LoadCause::Syntax(SyntaxFault::BadOperand)),
-        b'c' => Some(LoadCause::NoCategory),
-        b'x' => Some(LoadCause::OutsideOrder),
-        b'e' => Some(LoadCause::NoEnd),
-        _ => None,
-    }
-}
-
-// Asserts that a text that ends in the line of a number has the fault of a letter there, or none.
+// Asserts that a text that ends in the line of a number has the fault there that a letter stands for, or none.
 fn assert_prefix(rt: &impl Abort, alloc: Global, text: &[u8], line: u32, letter: u8) {
-    let fault = match cause(letter) {
-        Some(cause) => Some(LoadFault { line, cause }),
-        None => None,
+    let fault = loaded(alloc, text).err();
+    let cause = match letter {
+        b'o' => LoadCause::Lex(LexFault::OpenSymbol),
+        b'd' => LoadCause::Lex(LexFault::BadCharDirective),
+        b'u' => LoadCause::Syntax(SyntaxFault::UnknownStatement),
+        b'm' => LoadCause::Syntax(SyntaxFault::MissingOperand),
+        b'r' => LoadCause::Syntax(SyntaxFault::BadRule),
+        b'w' => LoadCause::Syntax(SyntaxFault::BadOperand),
+        b'c' => LoadCause::NoCategory,
+        b'x' => LoadCause::OutsideOrder,
+        b'e' => LoadCause::NoEnd,
+        _ => return assert_same(rt, text.len(), fault, None),
     };
-    assert_same(rt, text.len(), loaded(alloc, text).err(), fault);
+    assert_same(rt, text.len(), fault, Some(LoadFault { line, cause }));
 }
 
 // Asserts the fault of each text that ends in a line, which is put behind the lines before it.
@@ -178,6 +171,6 @@ fn each_prefix_of_a_table_has_its_fault(rt: HostRuntime) {
         let (line, letters) = row.split_once('\n').expect(&rt, "letters below a line");
         assert_line(&rt, rt.alloc(), &mut text, number, line, letters);
     }
-    let table = text_of(rt.alloc(), BASE_TABLE).expect(&rt, "the table");
+    let table = text_of(&rt, rt.alloc(), BASE_TABLE);
     assert_text(&rt, rt.alloc(), &text, &table);
 }

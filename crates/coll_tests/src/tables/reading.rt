@@ -8,7 +8,6 @@ use crate::tables::examples::{
     TWO_SECTIONS_PRINTED, assert_printed, id, loaded, loaded_lines, text_of,
 };
 use crate::tables::shown::{past_entry, past_table};
-use coll_table::Table;
 use std::alloc::Global;
 use std::process::Abort;
 
@@ -106,16 +105,11 @@ const SPELLINGS_PRINTED: Lines = &[
     "END LC_COLLATE",
 ];
 
-// Asserts that a table is so, shown in short.
-fn assert_shown(rt: &impl Abort, table: &Table, lack: &str) {
-    assert_same(rt, "the table", past_table(rt, lack, table), "");
-}
-
 fn assert_read(rt: &impl Abort, alloc: Global, row: &Read) {
-    let text = text_of(alloc, row.lines).expect(rt, "a text");
+    let text = text_of(rt, alloc, row.lines);
     let table = loaded(alloc, &text).expect(rt, row.shown);
-    assert_shown(rt, &table, row.shown);
-    let printed = text_of(alloc, row.printed).expect(rt, "a text");
+    assert_same(rt, "the table", past_table(rt, row.shown, &table), "");
+    let printed = text_of(rt, alloc, row.printed);
     assert_printed(rt, alloc, &table, &printed);
     drop(table);
 }
@@ -127,23 +121,15 @@ fn a_table_is_read_and_printed(rt: HostRuntime) {
     }
 }
 
-// Asserts that a copy is the table of two sections, and has taken so many steps.
-fn assert_copy(rt: &impl Abort, copy: &mut Table, steps: u64) {
-    assert_same(rt, "the steps", copy.steps(), steps);
-    assert_shown(rt, copy, TWO_SECTIONS_SHOWN);
-}
-
-fn assert_copied(rt: &impl Abort, alloc: Global, table: &mut Table) {
-    let steps = table.steps();
-    let mut copy = table.try_copy(alloc).expect(rt, "a copy");
-    assert_copy(rt, &mut copy, steps);
-    drop(copy);
-}
-
+// A copy has taken as many steps as its source.
 #[test]
 fn a_copy_is_the_same_table(rt: HostRuntime) {
-    let mut table = loaded_lines(rt.alloc(), TWO_SECTIONS).expect(&rt, "a table");
-    assert_copied(&rt, rt.alloc(), &mut table);
+    let table = loaded_lines(rt.alloc(), TWO_SECTIONS).expect(&rt, "a table");
+    let copy = table.try_copy(rt.alloc()).expect(&rt, "a copy");
+    assert_same(&rt, "the steps", copy.steps(), table.steps());
+    let rest = past_table(&rt, TWO_SECTIONS_SHOWN, &copy);
+    assert_same(&rt, "the table", rest, "");
+    drop(copy);
     drop(table);
 }
 
@@ -156,16 +142,6 @@ const ENTRIES: &[(&str, &str)] = &[
     ("L", ""),
 ];
 
-fn assert_entry(rt: &impl Abort, alloc: Global, table: &Table, text: &str, lack: &str) {
-    let id = id(alloc, text).expect(rt, text);
-    let rest = match table.entry(&id) {
-        Some(entry) => past_entry(rt, lack, entry),
-        None => lack,
-    };
-    assert_same(rt, text, rest, "");
-    drop(id);
-}
-
 // An identifier, and its entry in the table of second names, none of which has an entry of its own.
 const OWN_ENTRIES: &[(&str, &str)] = &[
     ("MIN", "<MIN>\n"),
@@ -175,25 +151,29 @@ const OWN_ENTRIES: &[(&str, &str)] = &[
 ];
 
 // Asserts what a table of three entries has for identifiers.
-fn assert_entries(rt: &impl Abort, alloc: Global, table: &mut Table, entries: &[(&str, &str)]) {
+fn assert_entries(rt: &impl Abort, alloc: Global, lines: Lines, entries: &[(&str, &str)]) {
+    let table = loaded_lines(alloc, lines).expect(rt, "a table");
     assert_same(rt, "the entries", table.len(), 3);
     for (text, lack) in entries {
-        assert_entry(rt, alloc, table, text, lack);
+        let id = id(rt, alloc, text);
+        let rest = match table.entry(&id) {
+            Some(entry) => past_entry(rt, lack, entry),
+            None => lack,
+        };
+        assert_same(rt, *text, rest, "");
+        drop(id);
     }
+    drop(table);
 }
 
 #[test]
 fn an_entry_is_found_by_its_identifier(rt: HostRuntime) {
-    let mut table = loaded_lines(rt.alloc(), TWO_SECTIONS).expect(&rt, "a table");
-    assert_entries(&rt, rt.alloc(), &mut table, ENTRIES);
-    drop(table);
+    assert_entries(&rt, rt.alloc(), TWO_SECTIONS, ENTRIES);
 }
 
 #[test]
 fn no_entry_is_found_by_a_second_name(rt: HostRuntime) {
-    let mut table = loaded_lines(rt.alloc(), SECOND_NAMES).expect(&rt, "a table");
-    assert_entries(&rt, rt.alloc(), &mut table, OWN_ENTRIES);
-    drop(table);
+    assert_entries(&rt, rt.alloc(), SECOND_NAMES, OWN_ENTRIES);
 }
 
 // A name, and its own name in the table of second names, if it is declared there.
@@ -207,15 +187,11 @@ const OWN_NAMES: &[(&str, Option<&str>)] = &[
     ("a", None),
 ];
 
-fn assert_own_names(rt: &impl Abort, table: &mut Table) {
-    for (name, own) in OWN_NAMES {
-        assert_same(rt, *name, table.resolve(name), *own);
-    }
-}
-
 #[test]
 fn a_second_name_stands_for_the_own_name_of_its_symbol(rt: HostRuntime) {
-    let mut table = loaded_lines(rt.alloc(), SECOND_NAMES).expect(&rt, "a table");
-    assert_own_names(&rt, &mut table);
+    let table = loaded_lines(rt.alloc(), SECOND_NAMES).expect(&rt, "a table");
+    for (name, own) in OWN_NAMES {
+        assert_same(&rt, *name, table.resolve(name), *own);
+    }
     drop(table);
 }
