@@ -8,11 +8,11 @@ ghost use Rattle.std.specs.Prelude.{◌≡◌, ◌<◌, length, IfErr};
 use crate::files::{Input, at_no_line, is_output_a_file, open_all};
 use crate::metered::MeteredSink;
 use crate::progress::{ProgressLine, Step};
-use crate::{Output, read_first, standard_output};
+use crate::{read_at, standard_output};
 use coll_bench::{Fault, RunFault};
 use coll_differences::{Differences, difference, write_difference};
 use coll_lex::{LexFault, Sink, WriteStop};
-use coll_table::{HashKeys, Table, load_keyed};
+use coll_table::{HashKeys, Table};
 use std::process::ExitCode;
 
 /// The exit status where two tables differ.
@@ -59,47 +59,13 @@ fn tell_between(
     requires { 0 < length inputs.old }
     ensures { IfErr result (λ fault. fault.input < length inputs.old) }
 {
-    match read_first(rt, keys, inputs) {
-        Ok(first) => tell_from(rt, line, keys, inputs, &first),
-        Err(fault) => Err(fault),
-    }
-}
-
-// Tells what differs between a table and that in the last of these inputs.
-fn tell_from(
-    rt: &HostRuntime,
-    line: &ProgressLine<'_>,
-    keys: HashKeys,
-    inputs: &mut [Input<'_>],
-    first: &Table,
-) -> Result<ExitCode, RunFault>
-    requires { 0 < length inputs.old }
-    ensures { IfErr result (λ fault. fault.input < length inputs.old) }
-{
     let last = inputs.len() - 1;
-    match read_at(rt, keys, inputs, last) {
-        Ok(second) => tell_of(rt, line, first, &second),
+    match read_at(rt, keys, inputs, 0) {
+        Ok(first) => match read_at(rt, keys, inputs, last) {
+            Ok(second) => tell_of(rt, line, &first, &second),
+            Err(fault) => Err(fault),
+        },
         Err(fault) => Err(fault),
-    }
-}
-
-/// The table in one of these inputs.
-pub(crate) fn read_at(
-    rt: &HostRuntime,
-    keys: HashKeys,
-    inputs: &mut [Input<'_>],
-    place: usize,
-) -> Result<Table, RunFault>
-    requires { place < length inputs.old }
-    ensures { IfErr result (λ fault. fault.input ≡ place) }
-{
-    match load_keyed(rt.alloc(), keys, &mut inputs[place]) {
-        Ok(table) => Ok(table),
-        Err(fault) => Err(RunFault {
-            input: place,
-            line: fault.line,
-            fault: Fault::Load(fault),
-        }),
     }
 }
 
@@ -119,7 +85,7 @@ fn tell_of(
     }
 }
 
-// Writes what differs to standard output.
+// Writes what differs to standard output, and answers the exit status once all of it has left the buffer.
 fn tell(
     rt: &HostRuntime,
     line: &ProgressLine<'_>,
@@ -130,26 +96,17 @@ fn tell(
     match standard_output(rt) {
         Ok(output) => {
             let mut output = MeteredSink::new(output, line, is_output_a_file(rt));
-            write_told(told, &mut output)
+            let wrote = write_difference(&mut output, told);
+            let flushed = output.flush();
+            drop(output);
+            if wrote.is_err() || flushed.is_err() {
+                return Err(at_no_line(0, Fault::Write(WriteStop::WriteFault)));
+            }
+            Ok(match told {
+                None => ExitCode::SUCCESS,
+                Some(_) => ExitCode::from(DIFFERENT),
+            })
         }
         Err(fault) => Err(fault),
     }
-}
-
-// Writes what differs, and answers the exit status once all of it has left the buffer.
-fn write_told(
-    told: &Option<Differences<'_>>,
-    output: &mut MeteredSink<'_, Output>,
-) -> Result<ExitCode, RunFault>
-    ensures { IfErr result (λ fault. fault.input ≡ 0) }
-{
-    let wrote = write_difference(output, told);
-    let flushed = output.flush();
-    if wrote.is_err() || flushed.is_err() {
-        return Err(at_no_line(0, Fault::Write(WriteStop::WriteFault)));
-    }
-    Ok(match told {
-        None => ExitCode::SUCCESS,
-        Some(_) => ExitCode::from(DIFFERENT),
-    })
 }

@@ -9,7 +9,7 @@ use crate::files::{Input, at_no_line, open_all};
 use crate::progress::ProgressLine;
 use crate::reasons::{ReasonedOutput, reason_of, reasoned_output};
 use crate::standard_input::ServesLines;
-use crate::{read_first, tell_fault_line};
+use crate::{read_at, tell_fault_line};
 use coll_bench::{Fault, RunFault};
 use coll_edit::{Editor, FileReason, OpensFiles, Watched, edit_lines};
 use coll_lex::{Counted, LexFault};
@@ -79,7 +79,7 @@ fn begin_opened(
     requires { 0 < length inputs.old }
     ensures { IfErr result (λ fault. fault.input < length inputs.old) }
 {
-    match read_first(rt, keys, inputs) {
+    match read_at(rt, keys, inputs, 0) {
         Ok(table) => match Editor::new(rt.alloc(), table) {
             Ok(mut editor) => match put_deltas(&mut editor, inputs) {
                 Ok(()) => Ok(editor),

@@ -76,7 +76,15 @@ pub(crate) fn tell_symbols<W: Sink>(alloc: Global, table: &Table, file: &str, ou
 
 // Writes how many symbols stand behind a character, and the first of them.
 fn write_several<W: Sink>(file: &str, firsts: &FirstLines, out: &mut W) -> Result<(), WriteStop> {
-    write_count(file, firsts.lines, out)?;
+    write_pieces(
+        out,
+        &[
+            Piece::Bytes(file.as_bytes()),
+            Piece::Bytes(b": behind a character: "),
+            Piece::Number(u64::from(firsts.lines)),
+            Piece::Bytes(b" symbols, as"),
+        ],
+    )?;
     for line in firsts.kept.as_slice().split(is_line_feed) {
         if let Some(symbol) = line.strip_prefix(BEFORE_SYMBOL) {
             write_pieces(out, &[Piece::Bytes(b" "), Piece::Bytes(symbol)])?;
@@ -93,17 +101,4 @@ fn write_several<W: Sink>(file: &str, firsts: &FirstLines, out: &mut W) -> Resul
 // Whether a byte is a line feed.
 fn is_line_feed(byte: &u8) -> bool {
     *byte == b'\n'
-}
-
-// Writes how many symbols stand behind a character.
-fn write_count<W: Sink>(file: &str, count: u32, out: &mut W) -> Result<(), WriteStop> {
-    write_pieces(
-        out,
-        &[
-            Piece::Bytes(file.as_bytes()),
-            Piece::Bytes(b": behind a character: "),
-            Piece::Number(u64::from(count)),
-            Piece::Bytes(b" symbols, as"),
-        ],
-    )
 }

@@ -74,26 +74,12 @@ impl Made {
     }
 }
 
-/// Makes a table of the source in the last of these files, where these names are defined, and prints it. The answer is the exit status.
-pub(crate) fn import_as_table(
+/// Makes what a source of this kind is for, of the source in the last of these files, where these names are defined, and prints it: a
+/// table, or a delta file for the table in the first of these files. The answer is the exit status.
+pub(crate) fn import_source(
     rt: &HostRuntime,
     keys: HashKeys,
-    files: &[&str],
-    defined: &[TextBuf],
-) -> ExitCode
-    requires { 0 < length files.now }
-{
-    let line = ProgressLine::new(rt);
-    let status = import_from(rt, &line, keys, Wanted::Table, files, defined);
-    line.end();
-    status
-}
-
-/// Makes a delta file for the table in the first of these files of the source in the last, where these names are defined, and prints
-/// it. The answer is the exit status.
-pub(crate) fn import_as_delta(
-    rt: &HostRuntime,
-    keys: HashKeys,
+    kind: SourceKind,
     files: &[&str],
     names: &[String],
     defined: &[TextBuf],
@@ -102,7 +88,10 @@ pub(crate) fn import_as_delta(
     requires names { length names.now ≡ length files.now }
 {
     let line = ProgressLine::new(rt);
-    let status = import_over(rt, &line, keys, files, names, defined);
+    let status = match kind {
+        SourceKind::Table => import_from(rt, &line, keys, Wanted::Table, files, defined),
+        SourceKind::Tailoring => import_over(rt, &line, keys, files, names, defined),
+    };
     line.end();
     status
 }
@@ -335,7 +324,8 @@ fn print(
         BufWriter::new(rt.alloc(), rt.stdout()),
         BufWriter::new(rt.alloc(), rt.stderr()),
     ) else {
-        return tell(rt, line, &nowhere(LoadCause::OutOfMemory), files);
+        let fault = SourcePlace { text: 0, line: 0 }.load_fault(LoadCause::OutOfMemory);
+        return tell(rt, line, &fault, files);
     };
     let output = MeteredSink::new(Counted::new(output), line, is_output_a_file(rt));
     if !write_whole(made, output) {
@@ -383,9 +373,4 @@ fn tell(
         67 | 68 => 2,
         _ => 1,
     })
-}
-
-// A fault that comes from no line.
-fn nowhere(cause: LoadCause) -> SourceFault {
-    SourcePlace { text: 0, line: 0 }.load_fault(cause)
 }

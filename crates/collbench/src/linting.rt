@@ -37,8 +37,7 @@ pub(crate) fn lint_files(
     files: &[&str],
     names: &[String],
 ) -> ExitCode
-    requires some { 0 < length files.now }
-    requires names { length names.now ≡ length files.now }
+    requires { 0 < length files.now }
 {
     let line = ProgressLine::new(rt);
     let linted = open_and_lint(rt, &line, keys, files, names);

@@ -33,12 +33,13 @@ use coll_bench::{Batch, Fault, RunFault, exit_status, read_inputs, run_batch_key
 use coll_command_line::{Request, Task, Unasked, read_words};
 use coll_edit::Editor;
 use coll_lex::{Counted, LexFault, ReadStop, Sink, WriteStop};
-use coll_table::{HashKeys, Table};
-use differences::{read_at, tell_differences};
+use coll_sources::SourceKind;
+use coll_table::{HashKeys, Table, load_keyed};
+use differences::tell_differences;
 use explaining::explain_texts;
 use exports::tell_symbols;
 use files::{Input, at_no_line, open_all};
-use importing::{import_as_delta, import_as_table};
+use importing::import_source;
 use linting::lint_files;
 use progress::ProgressLine;
 use random_keys::random_keys;
@@ -78,30 +79,22 @@ fn main(rt: HostRuntime) -> ExitCode {
     }
 }
 
-// Does what was asked for, and answers the exit status.
+// Does what was asked for, under keys of this run, and answers the exit status.
 fn obey(rt: &HostRuntime, request: Request<'_>) -> ExitCode
     requires { 0 < vec_len request.files }
 {
     let Request { task, files } = request;
-    match copied_names(rt.alloc(), files.as_slice()) {
-        Ok(names) => do_task(rt, task, files.as_slice(), names.as_slice()),
-        Err(_) => tell_no_memory(rt),
-    }
-}
-
-// Does a task on these files, under keys of this run, and answers the exit status.
-fn do_task(rt: &HostRuntime, task: Task, files: &[&str], names: &[String]) -> ExitCode
-    requires some { 0 < length files.now }
-    requires names { length names.now ≡ length files.now }
-{
+    let Ok(names) = copied_names(rt.alloc(), files.as_slice()) else {
+        return tell_no_memory(rt);
+    };
     match random_keys(rt) {
-        Ok(keys) => do_keyed(rt, keys, task, files, names),
+        Ok(keys) => do_task(rt, keys, task, files.as_slice(), names.as_slice()),
         Err(_) => tell_at_start(rt, Fault::Read(ReadStop::ReadFault)),
     }
 }
 
 // Does a task on these files, in which names are looked up under these keys, and answers the exit status.
-fn do_keyed(
+fn do_task(
     rt: &HostRuntime,
     keys: HashKeys,
     task: Task,
@@ -113,12 +106,11 @@ fn do_keyed(
 {
     match task {
         Task::Batch(batch) => run(rt, keys, batch, files, names),
-        Task::Explain(text, other) => explain_texts(rt, keys, files, names, &text, &other),
+        Task::Explain(text, other) => {
+            status(rt, explain_texts(rt, keys, files, &text, &other), names)
+        }
         Task::Sort => serve_input::<SortBy>(rt, keys, files, names),
-        Task::Review => match review(rt, keys, files) {
-            Ok(()) => ExitCode::SUCCESS,
-            Err(fault) => tell_fault(rt, &fault, names),
-        },
+        Task::Review => status(rt, review(rt, keys, files), names),
         Task::Session => serve_input::<SessionOver>(rt, keys, files, names),
         Task::Lint => lint_files(rt, keys, files, names),
         Task::Edit => serve_input::<Editor>(rt, keys, files, names),
@@ -126,8 +118,12 @@ fn do_keyed(
             Ok(status) => status,
             Err(fault) => tell_fault(rt, &fault, names),
         },
-        Task::Import(defined) => import_as_table(rt, keys, files, defined.get()),
-        Task::ImportDelta(defined) => import_as_delta(rt, keys, files, names, defined.get()),
+        Task::Import(defined) => {
+            import_source(rt, keys, SourceKind::Table, files, names, defined.get())
+        }
+        Task::ImportDelta(defined) => {
+            import_source(rt, keys, SourceKind::Tailoring, files, names, defined.get())
+        }
     }
 }
 
@@ -183,23 +179,10 @@ fn run_on_files(
     ensures { IfErr result (λ fault. fault.input < length files.now) }
 {
     match open_all(rt, None, files) {
-        Ok(mut inputs) => run_on_inputs(rt, keys, batch, inputs.as_mut_slice()),
-        Err(fault) => Err(fault),
-    }
-}
-
-// Runs a batch on a table and delta files, to standard output.
-fn run_on_inputs(
-    rt: &HostRuntime,
-    keys: HashKeys,
-    batch: Batch,
-    inputs: &mut [Input<'_>],
-) -> Result<Table, RunFault>
-    requires { 0 < length inputs.old }
-    ensures { IfErr result (λ fault. fault.input < length inputs.old) }
-{
-    match standard_output(rt) {
-        Ok(mut output) => write_batch(rt, keys, batch, inputs, &mut output),
+        Ok(mut inputs) => match standard_output(rt) {
+            Ok(mut output) => write_batch(rt, keys, batch, inputs.as_mut_slice(), &mut output),
+            Err(fault) => Err(fault),
+        },
         Err(fault) => Err(fault),
     }
 }
@@ -235,30 +218,32 @@ fn read_table(
     ensures { IfErr result (λ fault. fault.input < length files.now) }
 {
     match open_all(rt, line, files) {
-        Ok(mut inputs) => read_opened(rt, keys, inputs.as_mut_slice()),
+        Ok(mut inputs) => {
+            let (table, deltas) = inputs.as_mut_slice().split_at_mut(1);
+            read_inputs(rt.alloc(), keys, &mut table[0], deltas)
+        }
         Err(fault) => Err(fault),
     }
 }
 
-// The table in the first of these inputs, rewritten by the others.
-fn read_opened(
+// The table in one of these inputs.
+fn read_at(
     rt: &HostRuntime,
     keys: HashKeys,
     inputs: &mut [Input<'_>],
+    place: usize,
 ) -> Result<Table, RunFault>
-    requires { 0 < length inputs.old }
-    ensures { IfErr result (λ fault. fault.input < length inputs.old) }
+    requires { place < length inputs.old }
+    ensures { IfErr result (λ fault. fault.input ≡ place) }
 {
-    let (table, deltas) = inputs.split_at_mut(1);
-    read_inputs(rt.alloc(), keys, &mut table[0], deltas)
-}
-
-// The table in the first of these inputs.
-fn read_first(rt: &HostRuntime, keys: HashKeys, inputs: &mut [Input<'_>]) -> Result<Table, RunFault>
-    requires { 0 < length inputs.old }
-    ensures { IfErr result (λ fault. fault.input ≡ 0) }
-{
-    read_at(rt, keys, inputs, 0)
+    match load_keyed(rt.alloc(), keys, &mut inputs[place]) {
+        Ok(table) => Ok(table),
+        Err(fault) => Err(RunFault {
+            input: place,
+            line: fault.line,
+            fault: Fault::Load(fault),
+        }),
+    }
 }
 
 // Standard output, with a buffer. What a run wrote is flushed before its fault is told, each reply of a session by itself, and where

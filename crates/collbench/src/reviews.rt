@@ -7,7 +7,7 @@ ghost use Rattle.std.specs.Prelude.{◌<◌, ◌≤◌, length, IfErr};
 use crate::files::{Input, at_no_line, is_output_a_file, open_all};
 use crate::metered::MeteredSink;
 use crate::progress::{ProgressLine, Step};
-use crate::{Output, read_first, standard_output};
+use crate::{Output, read_at, standard_output};
 use coll_bench::{Fault, RunFault};
 use coll_lex::{ReadStop, Sink, WriteStop};
 use coll_reviews::{Progress, review_words};
@@ -54,35 +54,23 @@ fn review_opened(
     if inputs.len() < 3 {
         return Err(at_no_line(0, Fault::Read(ReadStop::ReadFault)));
     }
-    match read_first(rt, keys, inputs) {
-        Ok(table) => review_over(rt, line, table, inputs),
+    match read_at(rt, keys, inputs, 0) {
+        Ok(table) => match standard_output(rt) {
+            Ok(output) => {
+                let mut output = MeteredSink::new(output, line, is_output_a_file(rt));
+                review_to(rt, line, table, inputs, &mut output)
+            }
+            Err(fault) => {
+                drop(table);
+                Err(fault)
+            }
+        },
         Err(fault) => Err(fault),
     }
 }
 
-// Tells what the statements in the second of these inputs do to a table and the words in the third.
-fn review_over(
-    rt: &HostRuntime,
-    line: &ProgressLine<'_>,
-    table: Table,
-    inputs: &mut [Input<'_>],
-) -> Result<(), RunFault>
-    requires { 3 ≤ length inputs.old }
-    ensures { IfErr result (λ fault. fault.input < length inputs.old) }
-{
-    match standard_output(rt) {
-        Ok(output) => {
-            let mut output = MeteredSink::new(output, line, is_output_a_file(rt));
-            review_to(rt, line, table, inputs, &mut output)
-        }
-        Err(fault) => {
-            drop(table);
-            Err(fault)
-        }
-    }
-}
-
-// Tells them on an output. What was written has left the buffer in the end; where that fails, it is the fault.
+// Tells on an output what the statements in the second of these inputs do to a table and the words in the third. What was written has left
+// the buffer in the end; where that fails, it is the fault.
 fn review_to(
     rt: &HostRuntime,
     line: &ProgressLine<'_>,

@@ -6,7 +6,7 @@ use crate::files::{at_no_line, is_output_a_file, line_for, standard_input_size};
 use crate::metered::{MeteredSink, MeteredSource};
 use crate::progress::{ProgressLine, Step};
 use crate::standard_input::ServesLines;
-use crate::{Output, read_table, standard_output};
+use crate::{read_table, standard_output};
 use coll_bench::{Fault, RunFault};
 use coll_lex::{Counted, Sink, WriteStop};
 use coll_table::{HashKeys, Table};
@@ -39,7 +39,8 @@ impl ServesLines for SortBy {
     }
 }
 
-// Sorts the lines of standard input by a table, to standard output.
+// Sorts the lines of standard input by a table, to standard output. What it wrote has left the buffer in the end; where that fails, it is
+// the fault.
 fn sort_standard_input(
     rt: &HostRuntime,
     line: &ProgressLine<'_>,
@@ -50,26 +51,17 @@ fn sort_standard_input(
     match standard_output(rt) {
         Ok(output) => {
             let mut output = MeteredSink::new(output, line, is_output_a_file(rt));
-            sort_to(rt, line, table, &mut output)
+            let mut lines = standard_input(rt, line);
+            let sorted = sort_lines(rt.alloc(), table, &mut lines, &mut output);
+            drop(lines);
+            let flushed = output.flush();
+            drop(output);
+            match flushed {
+                Ok(()) => sorted,
+                Err(_) => Err(at_no_line(0, Fault::Write(WriteStop::WriteFault))),
+            }
         }
         Err(fault) => Err(fault),
-    }
-}
-
-// Sorts the lines of standard input by a table. What it wrote has left the buffer in the end; where that fails, it is the fault.
-fn sort_to(
-    rt: &HostRuntime,
-    line: &ProgressLine<'_>,
-    table: &Table,
-    output: &mut MeteredSink<'_, Output>,
-) -> Result<(), RunFault>
-    ensures { IfErr result (λ fault. fault.input ≡ 0) }
-{
-    let mut lines = standard_input(rt, line);
-    let sorted = sort_lines(rt.alloc(), table, &mut lines, output);
-    match output.flush() {
-        Ok(()) => sorted,
-        Err(_) => Err(at_no_line(0, Fault::Write(WriteStop::WriteFault))),
     }
 }
 
