@@ -70,6 +70,8 @@ def block(count, target="a"):
 
 
 ALPHABET = "abcdefghijklmnopqrstuvwxyz"
+# Combining marks.
+MARKS = "\u0301\u0308"
 
 
 def declared_symbols(count):
@@ -174,9 +176,10 @@ def backward(count):
 
 
 def signs(rules):
-    """A table of four levels that ignores an apostrophe and a hyphen but at the last one."""
+    """A table of four levels that ignores an apostrophe and a hyphen but at the last one, and two combining marks at the first."""
     names = "".join(f"{name}\n" for name in ("<BASE>", "<MIN>", "<CAP>"))
     ignored = "".join(f"<U{ord(sign):04X}> IGNORE;IGNORE;IGNORE;<U{ord(sign):04X}>\n" for sign in "'-")
+    ignored += "".join(f"<U{ord(mark):04X}> IGNORE;<U{ord(mark):04X}>;<MIN>;<U{ord(mark):04X}>\n" for mark in MARKS)
     letters = "".join(f"{low} {low};<BASE>;<MIN>;{low}\n{low.upper()} {low};<BASE>;<CAP>;{low.upper()}\n" for low in ALPHABET)
     declared = "".join(f"collating-symbol {name}\n" for name in names.split())
     return table(f"{names}{ignored}{letters}<U03B1>\n<U03B2>\n", declared, rules)
@@ -192,6 +195,12 @@ def with_signs(count):
     """A third of them as they are, a third with an apostrophe behind them, and a third with a hyphen within."""
     words = letters_alone(count // 3).split()
     return "".join(f"{word}\n{word}'s\n{word[:4]}-{word[4:]}\n" for word in words)
+
+
+def with_marks(count):
+    """A third of them as they are, a third with a mark behind a letter, and a third with two."""
+    words = letters_alone(count // 3).split()
+    return "".join(f"{word}\n{word[:4]}{MARKS[0]}{word[4:]}\n{word[:2]}{MARKS[1]}{word[2:]}{MARKS[0]}\n" for word in words)
 
 
 def with_capitals(count):
@@ -248,12 +257,15 @@ APART = 4
 # Reviews of twenty statements that move none of the words, whose comparisons are what takes time. Of each row: its name, the rules of the
 # table, the words, and how many times as long as `sort --parallel=1` takes for a million words the review may take beyond a sort of its own.
 FORWARD, SECOND_BACKWARD = "forward;forward;forward;forward,position", "forward;backward;forward;forward,position"
+FIRST_BACKWARD = "backward;forward;forward;forward,position"
 REVIEWED = {
     "review: words with signs": (FORWARD, with_signs, 0.6),
     "review: words with signs, the second level backward": (SECOND_BACKWARD, with_signs, 0.8),
     "review: words with capitals": (FORWARD, with_capitals, 0.9),
     "review: words with capitals, the second level backward": (SECOND_BACKWARD, with_capitals, 1.1),
-    "review: words of letters, the first level backward": ("backward;forward;forward;forward,position", letters_alone, 1.0),
+    "review: words with signs, the first level backward": (FIRST_BACKWARD, with_signs, 1.0),
+    "review: words with combining marks": (FORWARD, with_marks, 1.0),
+    "review: words of letters, the first level backward": (FIRST_BACKWARD, letters_alone, 1.0),
 }
 REVIEWED_WORDS, REVIEWED_STATEMENTS = 60_000, 20
 

@@ -7,9 +7,9 @@ PROGRAM is crates/collbench/out/collbench where none is given. Each history is a
 statements of all kinds, `:undo`, `:redo` and `:withdraw`, each followed by `:print`, `:history` and `:key`. Behind each `:withdraw
 K` a fresh session makes the statements that remained, but the K-th. Where it accepts all of them, the statement has to be
 withdrawn, and table, history and key are those of the fresh session; else `:withdraw` is refused with the number, in the old list,
-of the first statement that the fresh session refuses, and its refusal, and all is as it was. Behind each line the key and the order
-are those that a fresh session answers which makes the statements that then remain, and then all ranks, for a text that is too long
-to be looked up by itself. The lines are the same in each run.
+of the first statement that the fresh session refuses, and its refusal, and all is as it was. Behind each line the key and the order,
+for which the places of entries may follow what was done, are those that a fresh session answers which makes the statements that then
+remain, and then all ranks, for a text that is too long to be looked up by itself. The lines are the same in each run.
 
 The last line is 'N passed, M failed', where a run is one history.
 """
@@ -25,7 +25,9 @@ from run_program import PROGRAM
 
 HISTORIES = 300
 LINES = 30
-TABLE = """LC_COLLATE
+# Entries that no statement names: among so many a look lets the places that were given before follow a few statements.
+OTHERS = "".join(f"<U{0x4E00 + number:04X}>\n" for number in range(400))
+TABLE = f"""LC_COLLATE
 collating-symbol <BASE>
 collating-symbol <MIN>
 collating-symbol <CAP>
@@ -47,6 +49,8 @@ order_end
 order_start <THIRD>
 <U002D> IGNORE;IGNORE;<U002D>
 order_end
+order_start <FOURTH>
+{OTHERS}order_end
 END LC_COLLATE
 """
 ASKED = [':key "chab-de"\n', ':compare "chad" "cd"\n']
