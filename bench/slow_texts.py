@@ -259,13 +259,13 @@ APART = 4
 FORWARD, SECOND_BACKWARD = "forward;forward;forward;forward,position", "forward;backward;forward;forward,position"
 FIRST_BACKWARD = "backward;forward;forward;forward,position"
 REVIEWED = {
-    "review: words with signs": (FORWARD, with_signs, 0.6),
-    "review: words with signs, the second level backward": (SECOND_BACKWARD, with_signs, 0.8),
-    "review: words with capitals": (FORWARD, with_capitals, 0.9),
-    "review: words with capitals, the second level backward": (SECOND_BACKWARD, with_capitals, 1.1),
+    "review: words with signs": (FORWARD, with_signs, 0.5),
+    "review: words with signs, the second level backward": (SECOND_BACKWARD, with_signs, 0.6),
+    "review: words with capitals": (FORWARD, with_capitals, 0.6),
+    "review: words with capitals, the second level backward": (SECOND_BACKWARD, with_capitals, 0.8),
     "review: words with signs, the first level backward": (FIRST_BACKWARD, with_signs, 1.0),
-    "review: words with combining marks": (FORWARD, with_marks, 1.0),
-    "review: words of letters, the first level backward": (FIRST_BACKWARD, letters_alone, 1.0),
+    "review: words with combining marks": (FORWARD, with_marks, 0.5),
+    "review: words of letters, the first level backward": (FIRST_BACKWARD, letters_alone, 0.75),
 }
 REVIEWED_WORDS, REVIEWED_STATEMENTS = 60_000, 20
 
