@@ -1,5 +1,6 @@
 -- Maps from texts to numbers, as look-ups by name keep them.
 use Rattle.std.specs.Prelude.{◌≡◌, ℕ, if◌then◌else◌, List, [], ◌∷◌, Option, Some, None, map, encode_utf8_all, string_bytes}
+use Rattle.std.specs.List.{AllByRecursion}
 use Rattle.std.specs.declared.string.String.{String}
 use Rattle.coll_syntax.specs.Identifier.{same_name}
 use Rattle.coll_lookups.specs.IdSets.{characters_of}
@@ -24,5 +25,4 @@ IsText text = encode_utf8_all (characters_of text) ≡ string_bytes text
 
 -- this holds of each key
 abbrev pub AreKeys : {K V : Type 0} → (K → Type 0) → List (K × V) → Type 0
-AreKeys good [] = Unit {0}
-AreKeys good (e ∷ es) = good e.0 × AreKeys good es
+AreKeys good entries = AllByRecursion (λ e. good e.0) entries

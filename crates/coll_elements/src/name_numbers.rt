@@ -4,14 +4,14 @@ ghost use Rattle.std.specs.Prelude.{◌≡◌, [], ℕ, List, Some, cond, chars,
 ghost use Rattle.coll_syntax.specs.Identifier.{same_name};
 
 use coll_lookups::HashKeys;
-use indexmap::IndexMap;
 use std::alloc::{AllocError, Global};
+use std::collections::HashMap;
 use std::marker::Model;
 
 /// Numbers by name.
 #[derive(Drop)]
 pub(crate) struct NameNumbers {
-    numbers: IndexMap<String, u32, HashKeys>,
+    numbers: HashMap<String, u32, HashKeys>,
     alloc: Global,
 }
 
@@ -34,7 +34,7 @@ impl NameNumbers {
         ensures { result ≡ [] }
     {
         NameNumbers {
-            numbers: IndexMap::with_hasher(alloc, keys),
+            numbers: HashMap::with_hasher(alloc, keys),
             alloc,
         }
     }

@@ -9,7 +9,8 @@
 //!
 //! - `tokens`, with `buffers`: what a line is made of;
 //! - `directives`, `category` and `blanks`: what is recognised by a line's bytes, before any escape is read;
-//! - `scanning`, with `names`: the characters of a line, read into tokens (`Marked`, `Kinds`, `Scanning`);
+//! - `scanning`, with `names`: the characters of a line, read into tokens (`Marked`, `Kinds`, `Scanning`); in it, `word` says where a
+//!   comment begins, `symbol` and `text` what a symbol and a string spell, and `parts` and `runs` what is taken at once;
 //! - `logical_lines`: physical lines joined, and their tokens (`LogicalLines`, `Lexer`, with `Limits`);
 //! - `plain_tokens` and `plain_strings`, in it: the tokens of a line, and the pieces of a string, read where they stand
 //!   (`PlainTexts`, `PlainStrings`);

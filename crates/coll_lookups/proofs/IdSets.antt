@@ -2,9 +2,8 @@
 use Rattle.std.proofs.Common.{◌≡◌, ℕ, Bool, true, false, ◌||◌, cond, nat_eq, List, [], ◌∷◌, ◌++◌, map, sym, ap, ◌∙◌, refl}
 use Rattle.std.specs.List.{list_any}
 use Rattle.std.proofs.lemmas.List.Folds.{list_any-append}
-use Rattle.coll_lookups.proofs.Sameness.{same_name_decides}
 use Rattle.coll_syntax.specs.Identifier.{same_name, same_id, has_name, has_id}
-use Rattle.coll_lookups.specs.IdSets.{with_name, ids_in_set, AddsId}
+use Rattle.coll_lookups.specs.IdSets.{ids_in_set, AddsId, AddsName}
 use Rattle.coll_syntax.specs.declared.identifiers.Id.{Id}
 use Rattle.coll_syntax.specs.declared.identifiers.Id.TheVariants.{Char, Named, Undefined}
 
@@ -66,31 +65,16 @@ found_place names characters undefined Undefined =
       last_found true = refl
       last_found false = refl
 
--- a name put in is found, and each other as before
-with_name_has : (names : List (List ℕ)) (name other : List ℕ) → has_name (with_name names name) other ≡ (same_name other name || has_name names other)
-with_name_has names name other = by_there (has_name names name) refl where
-  by_there : (b : Bool) → has_name names name ≡ b → has_name (cond b names (names ++ name ∷ [])) other ≡ (same_name other name || has_name names other)
-  by_there true e = by_same (same_name other name) refl where
-    by_same : (s : Bool) → same_name other name ≡ s → has_name names other ≡ (s || has_name names other)
-    by_same true q = ap (has_name names) ((same_name_decides other name).0 q) ∙ e
-    by_same false q = refl
-  by_there false e = list_any-append (same_name other) names (name ∷ []) ∙ turned (has_name names other) (same_name other name) where
-    turned : (a b : Bool) → (a || (b || false)) ≡ (b || a)
-    turned true true = refl
-    turned true false = refl
-    turned false true = refl
-    turned false false = refl
-
 -- with one name more, a look-up has that name more
-pub adds_name : (names : List (List ℕ)) (characters : List ℕ) (undefined : Bool) (name : List ℕ)
-    → AddsId (ids_in_set names characters undefined) (ids_in_set (with_name names name) characters undefined) (Named name)
-adds_name names characters undefined name (Char c) =
-    found_place (with_name names name) characters undefined (Char c) ∙ sym (found_place names characters undefined (Char c))
-adds_name names characters undefined name (Named other) =
-    found_place (with_name names name) characters undefined (Named other)
-    ∙ (with_name_has names name other ∙ ap (λ b. same_name other name || b) (sym (found_place names characters undefined (Named other))))
-adds_name names characters undefined name Undefined =
-    found_place (with_name names name) characters undefined Undefined ∙ sym (found_place names characters undefined Undefined)
+pub adds_name : (old new : List (List ℕ)) (characters : List ℕ) (undefined : Bool) (name : List ℕ) → AddsName old new name
+    → AddsId (ids_in_set old characters undefined) (ids_in_set new characters undefined) (Named name)
+adds_name old new characters undefined name h (Char c) =
+    found_place new characters undefined (Char c) ∙ sym (found_place old characters undefined (Char c))
+adds_name old new characters undefined name h (Named other) =
+    found_place new characters undefined (Named other)
+    ∙ (h other ∙ ap (λ b. same_name other name || b) (sym (found_place old characters undefined (Named other))))
+adds_name old new characters undefined name h Undefined =
+    found_place new characters undefined Undefined ∙ sym (found_place old characters undefined Undefined)
 
 -- with one character more, a look-up has that character more
 pub adds_char : (names : List (List ℕ)) (old new : List ℕ) (undefined : Bool) (c : ℕ) → ((other : ℕ) → list_any (nat_eq other) new ≡ (nat_eq other c || list_any (nat_eq other) old))

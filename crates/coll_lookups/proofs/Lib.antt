@@ -2,6 +2,7 @@ mod CharNodes
 mod CharPages
 mod CharSets
 pub mod IdSets
+mod ListedNames
 pub mod FollowedNumbers
 pub mod NameNodes
 pub mod NameSets

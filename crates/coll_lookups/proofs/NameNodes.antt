@@ -7,7 +7,6 @@ use Rattle.std.specs.List.{position_or_len, IsDistinct}
 use Rattle.std.specs.Prelude.{chars, encode_utf8_all}
 use Rattle.std.specs.Str.{bytes_eq}
 use Rattle.std.specs.Map.{lookup, set_value}
-use Rattle.indexmap.specs.IndexMap.{insert_entry}
 use Rattle.coll_order.proofs.Sameness.{by_test}
 use Rattle.coll_order.specs.declared.places.NodeId.{NodeId}
 use Rattle.coll_syntax.proofs.Spellings.{same_spelling}
@@ -16,7 +15,7 @@ use Rattle.coll_lookups.proofs.Sameness.{same_name_decides}
 use Rattle.coll_lookups.proofs.NodeLookUps.{found, found_node, found_key, inserted_leads, inserted_keys, inserted_good, set_leads, set_keys, set_good}
 use Rattle.coll_lookups.specs.NameKeys.{bytes_of, name_of_key, same_bytes, IsReadBack, IsWithin}
 use Rattle.coll_lookups.specs.NodeLookUps.{node_named, is_name_key, SetsName, AddsNameKey, KeepNameKeys}
-use Rattle.coll_lookups.specs.NodeMaps.{names_lead, AreKeys}
+use Rattle.coll_lookups.specs.NodeMaps.{names_lead, with_entry, AreKeys}
 use Rattle.coll_lookups.specs.declared.name_keys.NameKey.{NameKey}
 
 -- two keys have the same bytes where they have the same characters
@@ -51,7 +50,7 @@ guessed_place bytes ks place key distinct within is same =
     sym (ap (λ n. cond (nat_lt n (length ks)) (Some n) None) first ∙ ap (λ b. cond b (Some place) None) (lt-ltb place (length ks) within))
 
 abbrev name_inserted : List (NameKey × Option NodeId) → NameKey → Option NodeId → List (NameKey × Option NodeId)
-name_inserted es key node = insert_entry same_bytes es key node
+name_inserted es key node = with_entry same_bytes es key node
 
 pub inserted_name_leads : (es : List (NameKey × Option NodeId)) (key : NameKey) (node : Option NodeId) → AreKeys IsReadBack es → IsReadBack key
     → SetsName (names_lead es) (names_lead (name_inserted es key node)) key.name node

@@ -1,13 +1,25 @@
 -- Names in a set: what is found there, and what one more does.
-use Rattle.std.proofs.Common.{◌≡◌, ℕ, Bool, true, false, ◌||◌, cond, List, [], ◌∷◌, ◌++◌, sym, ap, ◌∙◌, refl}
+use Rattle.std.proofs.Common.{◌≡◌, ℕ, Bool, true, false, ◌||◌, not, List, [], ◌∷◌, sym, ap, subst, ◌∙◌, refl}
 use Rattle.std.specs.Prelude.{chars, string_bytes, encode_utf8_all}
 use Rattle.std.specs.Str.{bytes_eq}
 use Rattle.std.specs.List.{list_any}
 use Rattle.std.specs.declared.string.String.{String}
-use Rattle.std.proofs.lemmas.List.{map-append}
+use Rattle.std.proofs.lemmas.Bool.{false≢true}
+use Rattle.std.proofs.lemmas.List.Sorted.{list_any-IsPermutation, IsPermutation-map}
+use Rattle.std.proofs.ByRecursion.{all_shuffled}
+use Rattle.std.specs.Bool.{MatchBool}
+use Rattle.std.specs.List.Sorted.{IsPermutation}
 use Rattle.coll_syntax.proofs.Spellings.{same_spelling}
 use Rattle.coll_syntax.specs.Identifier.{same_name, has_name}
-use Rattle.coll_lookups.specs.IdSets.{characters_of, all_characters_of, AreTexts, with_name}
+use Rattle.coll_lookups.proofs.Sameness.{same_name_decides}
+use Rattle.coll_lookups.specs.IdSets.{characters_of, all_characters_of, AddsName, AreTexts, IsText}
+
+-- a name that is there is no other name, and is found still
+there_still : (names : List (List ℕ)) (name other : List ℕ) → has_name names name ≡ true → has_name names other ≡ (same_name other name || has_name names other)
+there_still names name other there = by (same_name other name) refl where
+  by : (s : Bool) → same_name other name ≡ s → has_name names other ≡ (s || has_name names other)
+  by true q = ap (has_name names) ((same_name_decides other name).0 q) ∙ there
+  by false q = refl
 
 module _ {Y : Type 0} where
   -- a text is found by its bytes where its characters are found
@@ -20,29 +32,19 @@ module _ {Y : Type 0} where
       let there = found_name texts name bytes p q h.1 in
       ap (λ b. b || list_any (λ t. bytes_eq bytes (string_bytes t)) texts) here ∙ ap (λ b. same_name name (characters_of text) || b) there
 
-  -- texts with one more at the end
-  pub texts_push : (texts : List (String Y)) (text : String Y) → AreTexts texts → encode_utf8_all (characters_of text) ≡ string_bytes text → AreTexts (texts ++ text ∷ [])
-  texts_push [] text h e = (e, tt)
-  texts_push (first ∷ texts) text h e = (h.0, texts_push texts text h.1 e)
+  -- the texts stay texts where one more is put in
+  pub put_are : (free : Bool) (old new : List (String Y)) (text : String Y) → MatchBool free (IsPermutation (text ∷ old) new) (new ≡ old) → AreTexts old → IsText text → AreTexts new
+  put_are true old new text put h t = all_shuffled IsText (text ∷ old) new put (t, h)
+  put_are false old new text same h t = subst AreTexts (sym same) h
 
-  -- a text goes last, unless one of its bytes is there
-  abbrev inserted : List (String Y) → String Y → List (String Y)
-  inserted texts text = cond (list_any (λ t. bytes_eq (string_bytes text) (string_bytes t)) texts) texts (texts ++ text ∷ [])
-
-  -- so does a name among names
-  pub inserted_name : (texts : List (String Y)) (text : String Y) (name : List ℕ) → AreTexts texts → characters_of text ≡ name → encode_utf8_all name ≡ string_bytes text
-      → all_characters_of (inserted texts text) ≡ with_name (all_characters_of texts) name
-  inserted_name texts text name h q p =
-      let found = found_name texts name (string_bytes text) p q h in
-      ap (λ b. all_characters_of (cond b texts (texts ++ text ∷ []))) found ∙ pushed (has_name (all_characters_of texts) name) where
-        pushed : (b : Bool) → all_characters_of (cond b texts (texts ++ text ∷ [])) ≡ cond b (all_characters_of texts) (all_characters_of texts ++ name ∷ [])
-        pushed true = refl
-        pushed false = map-append characters_of texts (text ∷ []) ∙ ap (λ n. all_characters_of texts ++ n ∷ []) q
-
-  -- and the texts stay texts
-  pub inserted_are : (texts : List (String Y)) (text : String Y) (name : List ℕ) → AreTexts texts → characters_of text ≡ name → encode_utf8_all name ≡ string_bytes text
-      → AreTexts (inserted texts text)
-  inserted_are texts text name h q p = kept (list_any (λ t. bytes_eq (string_bytes text) (string_bytes t)) texts) where
-    kept : (b : Bool) → AreTexts (cond b texts (texts ++ text ∷ []))
-    kept true = h
-    kept false = texts_push texts text h (ap encode_utf8_all q ∙ p)
+  -- and then their names have one name more
+  pub put_adds : (free : Bool) (old new : List (String Y)) (text : String Y) (name : List ℕ) → MatchBool free (IsPermutation (text ∷ old) new) (new ≡ old) → characters_of text ≡ name
+      → free ≡ not (has_name (all_characters_of old) name) → AddsName (all_characters_of old) (all_characters_of new) name
+  put_adds true old new text name put q e other =
+      sym (list_any-IsPermutation (same_name other) (all_characters_of (text ∷ old)) (all_characters_of new) (IsPermutation-map characters_of (text ∷ old) new put))
+      ∙ ap (λ n. same_name other n || has_name (all_characters_of old) other) q
+  put_adds false old new text name same q e other =
+      ap (λ texts. has_name (all_characters_of texts) other) same ∙ there_still (all_characters_of old) name other (there (has_name (all_characters_of old) name) e) where
+        there : (b : Bool) → false ≡ not b → b ≡ true
+        there true e = refl
+        there false e = absurd (false≢true e)

@@ -2,11 +2,10 @@
 use Rattle.std.proofs.Common.{◌≡◌, Bool, true, false, ◌||◌, cond, is_some, List, [], ◌∷◌, Option, Some, None, Decides, sym, ap, ◌∙◌, refl}
 use Rattle.std.specs.Map.{lookup, set_value}
 use Rattle.std.proofs.lemmas.Bool.{false≢true}
-use Rattle.indexmap.specs.IndexMap.{insert_entry}
 use Rattle.coll_order.specs.declared.places.NodeId.{NodeId}
 use Rattle.coll_lookups.proofs.Sameness.{decided_symmetric}
 use Rattle.coll_lookups.specs.NodeLookUps.{node_at, is_key}
-use Rattle.coll_lookups.specs.NodeMaps.{leads, AreKeys}
+use Rattle.coll_lookups.specs.NodeMaps.{leads, with_entry, AreKeys}
 
 -- a node that is found, if one is
 abbrev pub found : Option (Option NodeId) → Option NodeId
@@ -68,30 +67,30 @@ module _ {K Key : Type 0} (same : Key → Key → Bool) (decides : (a b : Key) �
 
   module _ (eq : K → K → Bool) (agrees : (a b : K) → good a → good b → eq a b ≡ same (key a) (key b)) where
     -- a key put in leads where it is to, and each other to where it led
-    pub inserted_leads : (es : List (K × Option NodeId)) (k : K) (v : Option NodeId) → AreKeys good es → good k → (other : Key) → node_at same (leads key (insert_entry eq es k v)) other
+    pub inserted_leads : (es : List (K × Option NodeId)) (k : K) (v : Option NodeId) → AreKeys good es → good k → (other : Key) → node_at same (leads key (with_entry eq es k v)) other
         ≡ cond (same other (key k)) v (node_at same (leads key es) other)
     inserted_leads [] k v h g other = refl
     inserted_leads (e ∷ es) k v h g other = by (inserted_leads es k v h.1 g other) (eq k e.0) refl where
-      by : node_at same (leads key (insert_entry eq es k v)) other ≡ cond (same other (key k)) v (node_at same (leads key es) other) → (b : Bool) → eq k e.0 ≡ b
-          → node_at same (leads key (cond b ((e.0, v) ∷ es) (e ∷ insert_entry eq es k v))) other ≡ cond (same other (key k)) v (cond (same other (key e.0)) e.1 (node_at same (leads key es) other))
+      by : node_at same (leads key (with_entry eq es k v)) other ≡ cond (same other (key k)) v (node_at same (leads key es) other) → (b : Bool) → eq k e.0 ≡ b
+          → node_at same (leads key (cond b ((e.0, v) ∷ es) (e ∷ with_entry eq es k v))) other ≡ cond (same other (key k)) v (cond (same other (key e.0)) e.1 (node_at same (leads key es) other))
       by later true t = here (key e.0) (key k) (sym ((decides (key k) (key e.0)).0 (sym (agrees k e.0 g h.0) ∙ t))) other v e.1 _
       by later false t = behind (key e.0) (key k) (sym (agrees k e.0 g h.0) ∙ t) other v e.1 _ _ later
 
     -- and is a key, beside those before
-    pub inserted_keys : (es : List (K × Option NodeId)) (k : K) (v : Option NodeId) → AreKeys good es → good k → (other : Key) → is_key same (leads key (insert_entry eq es k v)) other
+    pub inserted_keys : (es : List (K × Option NodeId)) (k : K) (v : Option NodeId) → AreKeys good es → good k → (other : Key) → is_key same (leads key (with_entry eq es k v)) other
         ≡ (same other (key k) || is_key same (leads key es) other)
     inserted_keys [] k v h g other = refl
     inserted_keys (e ∷ es) k v h g other = by (inserted_keys es k v h.1 g other) (eq k e.0) refl where
-      by : is_key same (leads key (insert_entry eq es k v)) other ≡ (same other (key k) || is_key same (leads key es) other) → (b : Bool) → eq k e.0 ≡ b
-          → is_key same (leads key (cond b ((e.0, v) ∷ es) (e ∷ insert_entry eq es k v))) other ≡ (same other (key k) || (same other (key e.0) || is_key same (leads key es) other))
+      by : is_key same (leads key (with_entry eq es k v)) other ≡ (same other (key k) || is_key same (leads key es) other) → (b : Bool) → eq k e.0 ≡ b
+          → is_key same (leads key (cond b ((e.0, v) ∷ es) (e ∷ with_entry eq es k v))) other ≡ (same other (key k) || (same other (key e.0) || is_key same (leads key es) other))
       by later true t = key_here (key e.0) (key k) (sym ((decides (key k) (key e.0)).0 (sym (agrees k e.0 g h.0) ∙ t))) other _
       by later false t = key_behind (same other (key e.0)) (same other (key k)) _ _ later
 
     -- and all keys are good
-    pub inserted_good : (es : List (K × Option NodeId)) (k : K) (v : Option NodeId) → AreKeys good es → good k → AreKeys good (insert_entry eq es k v)
+    pub inserted_good : (es : List (K × Option NodeId)) (k : K) (v : Option NodeId) → AreKeys good es → good k → AreKeys good (with_entry eq es k v)
     inserted_good [] k v h g = (g, tt)
     inserted_good (e ∷ es) k v h g = by (inserted_good es k v h.1 g) (eq k e.0) where
-      by : AreKeys good (insert_entry eq es k v) → (b : Bool) → AreKeys good (cond b ((e.0, v) ∷ es) (e ∷ insert_entry eq es k v))
+      by : AreKeys good (with_entry eq es k v) → (b : Bool) → AreKeys good (cond b ((e.0, v) ∷ es) (e ∷ with_entry eq es k v))
       by later true = h
       by later false = (h.0, later)
 

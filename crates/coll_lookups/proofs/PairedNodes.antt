@@ -5,11 +5,9 @@ use Rattle.std.specs.List.{list_any, position_or_len}
 use Rattle.std.proofs.lemmas.List.{get_or_default}
 use Rattle.std.proofs.lemmas.Grind.{common_steps}
 use Rattle.std.specs.Map.{lookup, set_value}
-use Rattle.indexmap.specs.IndexMap.{insert_entry}
-use Rattle.indexmap.specs.IndexSet.{insert_key}
 use Rattle.coll_order.specs.declared.places.NodeId.{NodeId}
 use Rattle.coll_lookups.proofs.NodeLookUps.{found}
-use Rattle.coll_lookups.specs.NodeMaps.{node_put}
+use Rattle.coll_lookups.specs.NodeMaps.{node_put, with_entry, with_key}
 
 -- one more is the next one
 onward : (n : ℕ) → 1 + n ≡ suc n
@@ -96,30 +94,30 @@ module _ {K : Type 0} (eq : K → K → Bool) (k : K) (v : Option NodeId) where
       by false = refl
 
   -- a key put in with its node beside it is a pair put in
-  pub paired_put : (ks : List K) (vs : List (Option NodeId)) → length ks ≡ length vs → zip (insert_key eq ks k) (node_put vs (position_or_len (eq k) ks) v) ≡ insert_entry eq (zip ks vs) k v
+  pub paired_put : (ks : List K) (vs : List (Option NodeId)) → length ks ≡ length vs → zip (with_key eq ks k) (node_put vs (position_or_len (eq k) ks) v) ≡ with_entry eq (zip ks vs) k v
   paired_put [] [] e = refl
   paired_put [] (w ∷ ws) e = absurd (omega arith)
   paired_put (x ∷ ks) [] e = absurd (omega arith)
   paired_put (x ∷ ks) (w ∷ ws) e = by (eq k x) (paired_put ks ws (omega arith)) where
-    by : (b : Bool) → zip (insert_key eq ks k) (node_put ws (position_or_len (eq k) ks) v) ≡ insert_entry eq (zip ks ws) k v → zip (cond (b || list_any (eq k) ks) (x ∷ ks) (x ∷ (ks ++ k ∷ [])))
-        (node_put (w ∷ ws) (cond (not b) (1 + position_or_len (eq k) ks) 0) v) ≡ cond b ((x, v) ∷ zip ks ws) ((x, w) ∷ insert_entry eq (zip ks ws) k v)
+    by : (b : Bool) → zip (with_key eq ks k) (node_put ws (position_or_len (eq k) ks) v) ≡ with_entry eq (zip ks ws) k v → zip (cond (b || list_any (eq k) ks) (x ∷ ks) (x ∷ (ks ++ k ∷ [])))
+        (node_put (w ∷ ws) (cond (not b) (1 + position_or_len (eq k) ks) 0) v) ≡ cond b ((x, v) ∷ zip ks ws) ((x, w) ∷ with_entry eq (zip ks ws) k v)
     by true later = ap (zip (x ∷ ks)) (node_first w ws)
     by false later =
         (λ i. zip (key_behind (list_any (eq k) ks) x ks i) (node_behind w ws (position_or_len (eq k) ks) i)) ∙ ap (λ es. (x, w) ∷ es) later
 
   -- so it is of keys and nodes that are known to be these
-  pub paired_put_as : (ks more : List K) (vs grown put : List (Option NodeId)) (place : ℕ) → length ks ≡ length vs → more ≡ insert_key eq ks k → grown ≡ vs → place ≡ position_or_len (eq k) ks
-      → put ≡ node_put grown place v → zip more put ≡ insert_entry eq (zip ks vs) k v
+  pub paired_put_as : (ks more : List K) (vs grown put : List (Option NodeId)) (place : ℕ) → length ks ≡ length vs → more ≡ with_key eq ks k → grown ≡ vs → place ≡ position_or_len (eq k) ks
+      → put ≡ node_put grown place v → zip more put ≡ with_entry eq (zip ks vs) k v
   paired_put_as ks more vs grown put place e keys room at written =
-      (λ i. zip (keys i) (written i)) ∙ ((λ i. zip (insert_key eq ks k) (node_put (room i) (at i) v)) ∙ paired_put ks vs e)
+      (λ i. zip (keys i) (written i)) ∙ ((λ i. zip (with_key eq ks k) (node_put (room i) (at i) v)) ∙ paired_put ks vs e)
 
   -- and each key has its node still
-  pub paired_length : (ks : List K) (vs : List (Option NodeId)) → length ks ≡ length vs → length (insert_key eq ks k) ≡ length (node_put vs (position_or_len (eq k) ks) v)
+  pub paired_length : (ks : List K) (vs : List (Option NodeId)) → length ks ≡ length vs → length (with_key eq ks k) ≡ length (node_put vs (position_or_len (eq k) ks) v)
   paired_length [] [] e = refl
   paired_length [] (w ∷ ws) e = absurd (omega arith)
   paired_length (x ∷ ks) [] e = absurd (omega arith)
   paired_length (x ∷ ks) (w ∷ ws) e = by (eq k x) (paired_length ks ws (omega arith)) where
-    by : (b : Bool) → length (insert_key eq ks k) ≡ length (node_put ws (position_or_len (eq k) ks) v) → length (cond (b || list_any (eq k) ks) (x ∷ ks) (x ∷ (ks ++ k ∷ [])))
+    by : (b : Bool) → length (with_key eq ks k) ≡ length (node_put ws (position_or_len (eq k) ks) v) → length (cond (b || list_any (eq k) ks) (x ∷ ks) (x ∷ (ks ++ k ∷ [])))
         ≡ length (node_put (w ∷ ws) (cond (not b) (1 + position_or_len (eq k) ks) 0) v)
     by true later = e ∙ sym (ap length (node_first w ws))
     by false later = ap length (key_behind (list_any (eq k) ks) x ks) ∙ (ap suc later ∙ sym (ap length (node_behind w ws (position_or_len (eq k) ks))))

@@ -1,7 +1,8 @@
 -- Sets of identifiers: which are there, by their names, their characters, and whether UNDEFINED is one.
 use Rattle.std.specs.Prelude.{◌≡◌, ℕ, Bool, if◌then◌else◌, ◌||◌, List, [], ◌∷◌, ◌++◌, map, chars, string_bytes, encode_utf8_all}
 use Rattle.std.specs.declared.string.String.{String}
-use Rattle.coll_syntax.specs.Identifier.{same_id, has_name, has_id}
+use Rattle.std.specs.List.{AllByRecursion}
+use Rattle.coll_syntax.specs.Identifier.{same_name, same_id, has_name, has_id}
 use Rattle.coll_syntax.specs.declared.identifiers.Id.{Id}
 use Rattle.coll_syntax.specs.declared.identifiers.Id.TheVariants.{Char, Named, Undefined}
 
@@ -13,14 +14,17 @@ characters_of text = chars (string_bytes text)
 abbrev pub all_characters_of : {Y : Type 0} → List (String Y) → List (List ℕ)
 all_characters_of texts = map characters_of texts
 
--- the characters of each text are those of its bytes, and no others
-abbrev pub AreTexts : {Y : Type 0} → List (String Y) → Type 0
-AreTexts [] = Unit {0}
-AreTexts (text ∷ texts) = (encode_utf8_all (characters_of text) ≡ string_bytes text) × AreTexts texts
+-- the characters of a text are those of its bytes, and no others
+abbrev pub IsText : {Y : Type 0} → String Y → Type 0
+IsText text = encode_utf8_all (characters_of text) ≡ string_bytes text
 
--- names with one more, unless it is there
-abbrev pub with_name : List (List ℕ) → List ℕ → List (List ℕ)
-with_name names name = if has_name names name then names else names ++ name ∷ []
+-- this holds of each text
+abbrev pub AreTexts : {Y : Type 0} → List (String Y) → Type 0
+AreTexts texts = AllByRecursion IsText texts
+
+-- a set has one name more, unless it was there
+abbrev pub AddsName : (old new : List (List ℕ)) → List ℕ → Type 0
+AddsName old new name = (other : List ℕ) → has_name new other ≡ (same_name other name || has_name old other)
 
 -- a look-up has one identifier more, unless it was there
 abbrev pub AddsId : List Id → List Id → Id → Type 0

@@ -70,8 +70,8 @@ impl EntryNumbers {
         }
     }
 
-    /// The number that is kept for a node; 0 where none is. It takes no memory. Of a node that was dropped, and of one that was made
-    /// in its slot, the number is the one that was given last, behind the moves since.
+    /// The number that is kept for a node; 0 where none is, or where all were begun anew and it got none since. It takes no memory. Of
+    /// a node that was dropped, and of one that was made in its slot, it is the number that was given last, behind the moves since.
     pub fn get(&self, node: NodeId) -> u32
         ensures { result ≡ number_at self.now node }
     {
@@ -97,8 +97,8 @@ impl EntryNumbers {
 
     /// Has the numbers follow an entry that leaves one place and then takes another: each number above the first is one less, then
     /// each from the second on is one more, and the entry's node has the second. A place behind all that are told is left, or
-    /// taken, by nobody. It takes no memory, and answers `false`, and changes nothing, where there is no room for one move more, or
-    /// where there were as many since ever as can be counted.
+    /// taken, by nobody. It takes no memory, and answers `false`, and changes nothing, where there is no room for one move more, where
+    /// there were as many since ever as can be counted, or where the node's slot is behind all that there is room for.
     pub fn follow(&mut self, node: NodeId, from: u32, to: u32) -> bool
         requires { 1 ≤ to }
         ensures followed { result ≡ true → (other : NodeId)

@@ -7,7 +7,8 @@
 //!
 //! - `hash_keys`: keys, under which no text can choose names that are slow to find (`HashKeys`);
 //! - `word_hashing`: a hasher for short keys under keys made of these, a word at a time (`WordHashing`);
-//! - `name_keys` and `node_names`: a name as a key, and which node a name leads to (`NameKeys`, `NodeLookUps`, `NodeMaps`);
+//! - `name_keys`, `listed_names` and `node_names`: a name as a key, its place among names, and which node it leads to (`NameKeys`,
+//!   `NodeMaps`, `NodeLookUps`);
 //! - `char_pages`: which slot a character has (`CharPages`), for nodes by character (`char_nodes`, `CharNodes`) and sets of characters
 //!   (`char_sets`, `CharSets`);
 //! - `node_ids`: which node an identifier leads to, a name or a character (`NodeLookUps`);
@@ -21,6 +22,7 @@ mod char_sets;
 mod entry_numbers;
 mod hash_keys;
 mod id_sets;
+mod listed_names;
 mod name_keys;
 mod name_places;
 mod names;

@@ -14,6 +14,7 @@ ghost use Rattle.coll_lookups.specs.NameKeys.{bytes_of, one_write, same_bytes, t
 use coll_lex::TextBuf;
 use indexmap::Equivalent;
 use std::alloc::AllocError;
+use std::collections::hash_map;
 use std::hash::{Hash, Hasher};
 
 /// A name as a key.
@@ -84,6 +85,16 @@ pub struct NameText<'a> {
     pub text: &'a str,
 }
 
+impl<'a> NameText<'a> {
+    // Whether a key has this text.
+    #[inline]
+    fn is_text_of(&self, key: &NameKey) -> bool
+        ensures { result ≡ bytes_eq self.now.text.now (bytes_of key.now) }
+    {
+        self.text == key.name.get()
+    }
+}
+
 impl<'a> PartialEq for NameText<'a> {
     ghost eq = { λ a b. bytes_eq a.text.now b.text.now };
 
@@ -110,6 +121,7 @@ impl<'a> Hash for NameText<'a> {
     }
 }
 
+// Maps of `indexmap`, and those of `std`, find a name by its text.
 impl<'a> Equivalent<NameKey> for NameText<'a> {
     ghost equivalent = { λ text key. bytes_eq text.text.now (bytes_of key) };
 
@@ -119,6 +131,19 @@ impl<'a> Equivalent<NameKey> for NameText<'a> {
 
     #[inline]
     fn equivalent(&self, key: &NameKey) -> bool {
-        self.text == key.name.get()
+        self.is_text_of(key)
+    }
+}
+
+impl<'a> hash_map::Equivalent<NameKey> for NameText<'a> {
+    ghost equivalent = { λ text key. bytes_eq text.text.now (bytes_of key) };
+
+    ghost respects_hash = { λ text key same. ap one_write ((bytes_decides (text_bytes text) (bytes_of key)).0 same) };
+
+    ghost respects_eq = { λ text a b. nat_list_eq_equiv.congr (text_bytes text) (bytes_of a) (bytes_of b) };
+
+    #[inline]
+    fn equivalent(&self, key: &NameKey) -> bool {
+        self.is_text_of(key)
     }
 }

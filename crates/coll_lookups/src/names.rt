@@ -1,6 +1,6 @@
 //! Sets of names, with a look-up by hash.
 //!
-//! A `Names` is the list of its names in the order in which they came, each once. How a name is found may change.
+//! A `Names` is the list of its names, each once, in no stated order. How a name is found may change.
 //! `IdSet` keeps its names in it; names that lead to a node are kept by `node_names`.
 
 ghost use Rattle.std.specs.Prelude.{◌≡◌, [], not, IfOk, OnOk, OnErr, chars};
@@ -8,14 +8,14 @@ ghost use Rattle.coll_syntax.specs.Identifier.{has_name};
 
 use crate::{HashKeys, WordKeys};
 use coll_lex::TextBuf;
-use indexmap::IndexSet;
 use std::alloc::{AllocError, Global};
+use std::collections::HashSet;
 use std::marker::Model;
 
 /// Names, each once.
 #[derive(Drop)]
 pub struct Names {
-    names: IndexSet<String, WordKeys>,
+    names: HashSet<String, WordKeys>,
     alloc: Global,
 }
 
@@ -31,14 +31,14 @@ impl Model for Names {
 }
 
 impl Names {
-    ghost use Rattle.coll_lookups.specs.IdSets.{with_name};
+    ghost use Rattle.coll_lookups.specs.IdSets.{AddsName};
 
     /// No names. It takes no memory.
     pub fn new(alloc: Global, keys: HashKeys) -> Names
         ensures { result ≡ [] }
     {
         Names {
-            names: IndexSet::with_hasher(alloc, WordKeys::new(keys)),
+            names: HashSet::with_hasher(alloc, WordKeys::new(keys)),
             alloc,
         }
     }
@@ -50,19 +50,10 @@ impl Names {
         self.names.contains(name.get())
     }
 
-    /// Puts a name at the end. One that is there stays where it is.
-    pub fn insert(&mut self, name: &str) -> Result<(), AllocError>
-        ensures ok { OnOk result (self.new ≡ with_name self.old (chars name.now)) }
-        ensures err { OnErr result (self.new ≡ self.old) }
-    {
-        self.put_free(name)?;
-        Ok(())
-    }
-
-    /// Puts a name at the end, and answers whether it wasn't there. One that is there stays where it is.
+    /// Puts a name in, and answers whether it wasn't there. One that is there stays.
     pub fn put_free(&mut self, name: &str) -> Result<bool, AllocError>
         ensures free { IfOk result (λ free. free ≡ not (has_name self.old (chars name.now))) }
-        ensures ok { OnOk result (self.new ≡ with_name self.old (chars name.now)) }
+        ensures ok { OnOk result (AddsName self.old self.new (chars name.now)) }
         ensures err { OnErr result (self.new ≡ self.old) }
     {
         let text = String::from_str(self.alloc, name)?;

@@ -6,17 +6,15 @@
 
 ghost use Rattle.std.specs.Prelude.{◌≡◌, ◌<◌, ℕ, List, [], true, not, Some, None, is_some, unwrap_or, chars, length, position, slice_index_or};
 ghost use Rattle.std.specs.Prelude.{vec_len, vec_capacity, IfOk, OnOk, OnErr};
-ghost use Rattle.std.specs.List.{list_any, position_or_len};
-ghost use Rattle.indexmap.specs.IndexSet.{insert_key};
-ghost use Rattle.std.specs.Str.{bytes_eq};
-ghost use Rattle.coll_lookups.specs.NameKeys.{bytes_of, same_bytes};
-ghost use Rattle.coll_lookups.specs.NodeMaps.{node_put};
+ghost use Rattle.std.specs.List.{position_or_len};
+ghost use Rattle.coll_lookups.specs.NameKeys.{same_bytes};
+ghost use Rattle.coll_lookups.specs.NodeMaps.{node_put, with_key};
 
-use crate::name_keys::{NameKey, NameText};
+use crate::listed_names::ListedNames;
+use crate::name_keys::NameKey;
 use crate::{HashKeys, WordKeys};
 use coll_lex::TextBuf;
 use coll_order::NodeId;
-use indexmap::{Equivalent, IndexSet};
 use std::alloc::{AllocError, Global};
 use std::marker::Model;
 use std::rc::Rc;
@@ -25,7 +23,7 @@ use std::rc::Rc;
 #[derive(Drop)]
 pub struct NodeNames {
     // The names, in the order in which they came in. Copies share them until one of them gets a further name.
-    names: Rc<IndexSet<NameKey, WordKeys>>,
+    names: Rc<ListedNames>,
     // The node that each of them leads to, if it does.
     nodes: Vec<Option<NodeId>>,
     // No name has more bytes. It isn't made less.
@@ -41,11 +39,11 @@ impl Model for NodeNames {
 
     ghost Value = { List (Leading (List ℕ)) };
 
-    ghost view = { λ n. names_lead (zip n.names.value.keys n.nodes.items) };
+    ghost view = { λ n. names_lead (zip n.names.value n.nodes.items) };
 
-    ghost invariant = { λ n. (length n.names.value.keys ≡ length n.nodes.items)
-        × AreKeys IsReadBack (zip n.names.value.keys n.nodes.items)
-        × AreKeys (IsWithin n.longest) (zip n.names.value.keys n.nodes.items) };
+    ghost invariant = { λ n. (length n.names.value ≡ length n.nodes.items)
+        × AreKeys IsReadBack (zip n.names.value n.nodes.items)
+        × AreKeys (IsWithin n.longest) (zip n.names.value n.nodes.items) };
 }
 
 impl NodeNames {
@@ -55,7 +53,7 @@ impl NodeNames {
     pub fn new(alloc: Global, keys: HashKeys) -> Result<NodeNames, AllocError>
         ensures { IfOk result (λ made. made ≡ []) }
     {
-        let names = Rc::new(alloc, IndexSet::with_hasher(alloc, WordKeys::new(keys)))?;
+        let names = Rc::new(alloc, ListedNames::new(alloc, WordKeys::new(keys)))?;
         Ok(NodeNames {
             names,
             nodes: Vec::new(alloc),
@@ -66,7 +64,7 @@ impl NodeNames {
 
     /// The keys that names are looked up under.
     pub fn hash_keys(&self) -> HashKeys {
-        self.names.hasher().hash_keys()
+        self.names.word_keys().hash_keys()
     }
 
     /// Where it takes memory.
@@ -85,7 +83,7 @@ impl NodeNames {
     pub fn find_text(&self, name: &str) -> Option<NodeId>
         ensures { result ≡ node_named self.now (chars name.now) }
     {
-        match self.names.get_index_of(NameText { text: name }) {
+        match self.names.place(name) {
             Some(place) => self.nodes[place],
             None => None,
         }
@@ -97,7 +95,7 @@ impl NodeNames {
     pub fn find_behind(&self, name: &str, guess: &mut usize) -> Option<NodeId>
         ensures { result ≡ node_named self.now (chars name.now) }
     {
-        match place_by_guess(&self.names, name, *guess) {
+        match self.names.place_by_guess(name, *guess) {
             Some(place) => {
                 *guess = place.wrapping_add(1);
                 self.nodes[place]
@@ -131,7 +129,7 @@ impl NodeNames {
         ensures set { SetsName self.old self.new name.now node }
         ensures keys { KeepNameKeys self.old self.new }
     {
-        let Some(place) = self.names.get_index_of(NameText { text: name.get() }) else {
+        let Some(place) = self.names.place(name.get()) else {
             unreachable!();
         };
         self.nodes[place] = node;
@@ -194,45 +192,30 @@ impl NodeNames {
     }
 }
 
-// The place of a name, which is looked for at a guess before it is looked up.
-fn place_by_guess(names: &IndexSet<NameKey, WordKeys>, name: &str, guess: usize) -> Option<usize>
-    ensures index { result ≡ position (λ key. bytes_eq name.now (bytes_of key)) names.now.keys }
-    ensures found { is_some result ≡ list_any (λ key. bytes_eq name.now (bytes_of key)) names.now.keys }
-{
-    let text = NameText { text: name };
-    if let Some(key) = names.as_slice().get(guess) {
-        if text.equivalent(key) {
-            return Some(guess);
-        }
-    }
-    names.get_index_of(text)
-}
-
 // Puts a name behind all others, if it isn't there yet. Answers its place. Names that are shared are copied for one that is new,
 // and for no other.
-fn put_name(names: &mut Rc<IndexSet<NameKey, WordKeys>>, key: NameKey) -> Result<usize, AllocError>
-    ensures place { IfOk result (λ place. place ≡ position_or_len (same_bytes key) names.old.value.keys) }
-    ensures ok { OnOk result (names.new.value.keys ≡ insert_key same_bytes names.old.value.keys key) }
-    ensures err { OnErr result (names.new.value.keys ≡ names.old.value.keys) }
+fn put_name(names: &mut Rc<ListedNames>, key: NameKey) -> Result<usize, AllocError>
+    ensures place { IfOk result (λ place. place ≡ position_or_len (same_bytes key) names.old.value) }
+    ensures ok { OnOk result (names.new.value ≡ with_key same_bytes names.old.value key) }
+    ensures err { OnErr result (names.new.value ≡ names.old.value) }
 {
     if let Some(own) = Rc::get_mut(names) {
-        let (place, _) = own.insert_full(key)?;
-        return Ok(place);
+        return own.put(key);
     }
-    match names.get_index_of(&key) {
+    match names.place(key.text()) {
         Some(place) => Ok(place),
         None => put_apart(names, key),
     }
 }
 
 // The same, with names of one's own from now on.
-fn put_apart(names: &mut Rc<IndexSet<NameKey, WordKeys>>, key: NameKey) -> Result<usize, AllocError>
-    ensures place { IfOk result (λ place. place ≡ position_or_len (same_bytes key) names.old.value.keys) }
-    ensures ok { OnOk result (names.new.value.keys ≡ insert_key same_bytes names.old.value.keys key) }
-    ensures err { OnErr result (names.new.value.keys ≡ names.old.value.keys) }
+fn put_apart(names: &mut Rc<ListedNames>, key: NameKey) -> Result<usize, AllocError>
+    ensures place { IfOk result (λ place. place ≡ position_or_len (same_bytes key) names.old.value) }
+    ensures ok { OnOk result (names.new.value ≡ with_key same_bytes names.old.value key) }
+    ensures err { OnErr result (names.new.value ≡ names.old.value) }
 {
     let own = Rc::make_mut(names)?;
-    let (place, _) = own.insert_full(key)?;
+    let place = own.put(key)?;
     Ok(place)
 }
 

@@ -1,7 +1,7 @@
 //! The operands of `collating-element`: a name, the word `from`, and a string of characters.
 //!
-//! Each call is the definition of its name in `specs/Elements.antt`. The string is read whole before its length is
-//! looked at, since a name in it comes first among its faults.
+//! Each step is a definition of `specs/Elements.antt`. The string is read whole before its length is looked at, since a name in it
+//! comes first among its faults. `characters` reads the string of any other line too.
 
 ghost use Rattle.std.specs.Prelude.{◌≡◌, ◌≢◌, [], ◌∷◌, ◌++◌, ◌&&◌, nat_le, Ok, Err, IsTrue, IfOk, IfErr, OnOk, chars, string_bytes};
 ghost use Rattle.coll_syntax.specs.Operands.{only, wanted};

@@ -1,14 +1,18 @@
 //! The grammar of collation tables: what each line of a table and of a delta says (POSIX.1-2017, 7.3.2).
 //!
-//! A line comes from the lexer as its tokens, and leaves as plain data: `parse_table_line` and `parse_delta_line` read
-//! it from left to right, and the first token that doesn't fit gives the fault. The types come first (`identifiers`,
-//! `weights`, `rules`, `statements`, `lines`), then the reading of tokens (`keywords`, `operands`, `elements`,
-//! `weight_lists`, `rule_lists`, `order_lines`) and of whole lines (`table_lines`, `delta_lines`; `plain_lines` and `plain_deltas` with
-//! `plain_weights`, which ask the lexer for one token after another where a line can be read so); `syntax_faults` has the faults. What a line says is
-//! defined in `specs/`: `identifiers` in `Identifier`, `weight_lists` in `Weights`, `rule_lists` in `Rules`, what is proper in
-//! `Proper`, and the others in the file of their name. A new kind of line is a variant of
-//! `TableLine` or `DeltaLine`, its keyword, its case in `specs/TableLines.antt` or `specs/DeltaLines.antt`, and its arm in
-//! the parser.
+//! A line comes from the lexer as its tokens, and leaves as plain data: it is read from left to right, and the first token that
+//! doesn't fit gives the fault. A way through the crate:
+//!
+//! - `identifiers`, `weights`, `rules`, `statements`, `lines`: what a line says, as data;
+//! - `keywords`, `operands`, `elements`, `weight_lists`, `rule_lists`, `order_lines`: the tokens of each part (`weight_lists` says which
+//!   weight is IGNORE, an entry itself, or a list of identifiers);
+//! - `table_lines` and `delta_lines`: whole lines (`parse_table_line`, `parse_delta_line`);
+//! - `plain_lines` and `plain_deltas`, with `plain_weights`: the same of a line whose tokens are lent where they stand;
+//! - `syntax_faults`: why a line says nothing.
+//!
+//! What a line says is defined in `specs/`: `identifiers` in `Identifier`, `weight_lists` in `Weights`, `rule_lists` in `Rules`, what is
+//! proper in `Proper`, and the others in the file of their name. A new kind of line is a variant of `TableLine` or `DeltaLine`, its
+//! keyword, its case in `specs/TableLines.antt` or `specs/DeltaLines.antt`, and its arm in the parser.
 #![tactic(auto)]
 
 mod delta_lines;

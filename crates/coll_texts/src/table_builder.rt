@@ -2,8 +2,9 @@
 //!
 //! A `TableBuilder` keeps of the lines accepted so far what the next one is judged by (`BuilderState` of
 //! `specs/BuilderStates.antt`): whether an order is open, the rules, and a table that grows, with the number of the line of each
-//! entry. Each method judges one kind of line, as `cause_after` does; one that is refused leaves the builder as it was. What may stand
-//! where is changed in `specs/BuilderStates.antt` first.
+//! entry. Each method judges one kind of line, as `cause_after` does; one that is refused leaves the builder as it was. Weights may name
+//! what is declared later: they are judged where the category ends (`judge_weights`), each fault with its own line. What may stand where
+//! is changed in `specs/BuilderStates.antt` first.
 
 ghost use Rattle.std.specs.Prelude.{◌≡◌, ◌≢◌, ℕ, List, true, false, not, is_some, unwrap_or, [], length, nat_le};
 ghost use Rattle.std.specs.Prelude.{Some, None, IfOk, IfErr, IfSome, IfNone, OnOk, OnErr};

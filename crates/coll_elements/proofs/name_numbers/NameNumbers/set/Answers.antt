@@ -2,7 +2,7 @@
 use Rattle.std.proofs.Common.{sym, ap, ◌∙◌, chars}
 use Rattle.std.specs.Prelude.{encode_utf8_all}
 use Rattle.std.proofs.lemmas.Str.{encodes-chars}
-use Rattle.coll_elements.specs.NameMaps.{IsText}
+use Rattle.coll_elements.specs.NameMaps.{AreKeys, IsText}
 use Rattle.coll_elements.proofs.NameLookUps.{set_number, set_texts}
 use Rattle.coll_elements.proofs.name_numbers.NameNumbers.set.Goals as goal
 
@@ -11,9 +11,10 @@ is_text c = let same = c.in_ok-text.ensures.ok in ap (λ b. encode_utf8_all (cha
 
 pub invariant_of-self-2 : goal.invariant_of-self-2
 invariant_of-self-2 c =
-    rw c.in_ok-insert.ensures.entries (set_texts c.self.inside.numbers.entries c.in_ok-text.text c.args.number c.self.invariant (is_text c))
+    set_texts _ c.self.inside.numbers.entries _ c.in_ok-text.text c.args.number c.in_ok-insert.ensures.entries c.self.invariant (is_text c)
 
 pub returns : goal.returns
 returns c =
     let same = ap chars c.in_ok-text.ensures.ok in
-    rw (← c.self.view_is, ← same, c.in_ok-insert.ensures.entries) (set_number c.self.inside.numbers.entries c.in_ok-text.text c.args.number c.self.invariant (is_text c))
+    rw (← c.self.view_is, ← same)
+    (set_number c.self.inside.numbers.entries _ c.in_ok-text.text c.args.number c.self.invariant (invariant_of-self-2 c) (is_text c) c.in_ok-insert.ensures.updates.1 c.in_ok-insert.ensures.updates.3)

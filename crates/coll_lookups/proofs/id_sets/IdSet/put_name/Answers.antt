@@ -14,4 +14,5 @@ returns-clause-free c =
 pub returns-clause-ok : goal.returns-clause-ok
 returns-clause-ok c =
     let p = c.self.inside in
-    rw (← c.self.view_is, c.in_ok-free.ensures.ok, c.get.ensures.characters) (adds_name p.names p.chars p.undefined c.args.name.now)
+    rw (← c.self.view_is)
+    (adds_name p.names c.put_free.new.self p.chars p.undefined c.args.name.now (rw c.get.ensures.characters at c.in_ok-free.ensures.ok))

@@ -15,10 +15,10 @@ invariant_of-self-2 c =
     let same = ap length c.in_ok-key.ensures.name in
     let most = c.max-self-inside.ensures in
     rw (c.put_node.ensures.put, c.in_ok-reserve.ensures.items, c.in_ok-place.ensures.ok, c.in_ok-place.ensures.place) (
-      paired_length same_bytes key c.args.node p.names.value.keys p.nodes.items c.self.invariant.0,
-      rw (paired_put same_bytes key c.args.node p.names.value.keys p.nodes.items c.self.invariant.0)
+      paired_length same_bytes key c.args.node p.names.value p.nodes.items c.self.invariant.0,
+      rw (paired_put same_bytes key c.args.node p.names.value p.nodes.items c.self.invariant.0)
           (inserted_name_good _ key c.args.node c.self.invariant.1 c.in_ok-key.ensures.text),
-      rw (paired_put same_bytes key c.args.node p.names.value.keys p.nodes.items c.self.invariant.0)
+      rw (paired_put same_bytes key c.args.node p.names.value p.nodes.items c.self.invariant.0)
           (inserted_name_within _ _ _ key c.args.node (omega (arith, most)) c.self.invariant.2 (omega (arith, most, spelled, bytes, same))),
     )
 
@@ -29,7 +29,7 @@ returns-clause-ok c =
     rw (
       ← c.self.view_is,
       ← c.in_ok-key.ensures.name,
-      paired_put_as same_bytes key c.args.node p.names.value.keys _ p.nodes.items _ _ _ c.self.invariant.0 c.in_ok-place.ensures.ok
+      paired_put_as same_bytes key c.args.node p.names.value _ p.nodes.items _ _ _ c.self.invariant.0 c.in_ok-place.ensures.ok
           c.in_ok-reserve.ensures.items c.in_ok-place.ensures.place c.put_node.ensures.put,
     )
     (inserted_name_leads _ key c.args.node c.self.invariant.1 c.in_ok-key.ensures.text)
@@ -41,7 +41,7 @@ returns-clause-keys c =
     rw (
       ← c.self.view_is,
       ← c.in_ok-key.ensures.name,
-      paired_put_as same_bytes key c.args.node p.names.value.keys _ p.nodes.items _ _ _ c.self.invariant.0 c.in_ok-place.ensures.ok
+      paired_put_as same_bytes key c.args.node p.names.value _ p.nodes.items _ _ _ c.self.invariant.0 c.in_ok-place.ensures.ok
           c.in_ok-reserve.ensures.items c.in_ok-place.ensures.place c.put_node.ensures.put,
     )
     (inserted_name_keys _ key c.args.node c.self.invariant.1 c.in_ok-key.ensures.text)
@@ -51,5 +51,5 @@ returns-clause-led c =
     let p = c.self.inside in
     rw (← c.self.view_is, ← c.in_ok-key.ensures.name)
     (c.put_node.ensures.led ∙ (ap₂ (λ vs place. slice_index_or vs place None) c.in_ok-reserve.ensures.items c.in_ok-place.ensures.place
-    ∙ (sym (paired_found _ p.names.value.keys p.nodes.items c.self.invariant.0)
+    ∙ (sym (paired_found _ p.names.value p.nodes.items c.self.invariant.0)
     ∙ sym (found_name_node _ _ refl c.in_ok-key.ensures.text _ c.self.invariant.1))))
