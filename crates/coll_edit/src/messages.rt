@@ -4,9 +4,10 @@
 //! and no fault of a session counts it.
 
 use crate::devices::FileReason;
-use crate::typed_lines::{ForeignWord, Wish};
+use crate::typed_lines::Wish;
 use coll_advice::{Found, advice_of, nearest_name, nearest_section, write_advice};
 use coll_devices::{Sink, WriteStop};
+use coll_findings::ForeignWord;
 use coll_syntax::Id;
 use coll_table::Table;
 use coll_texts::{Piece, write_pieces};
@@ -97,7 +98,7 @@ pub(crate) enum Hint<'a> {
     NeededBy(u32),
     /// This declared name is meant, which stands there without its brackets.
     Name(&'a str),
-    /// A keyword is meant for which another dialect has this one.
+    /// The line begins with this keyword of another dialect.
     Foreign(ForeignWord),
 }
 
@@ -183,7 +184,7 @@ fn write_meant<M: Sink>(messages: &mut M, meant: Piece<'_>) -> Result<(), WriteS
     write_pieces(messages, &pieces)
 }
 
-// Writes which keyword is meant, as a lint does.
+// Writes a keyword of another dialect, and what to write instead, as a lint does.
 fn write_foreign<M: Sink>(messages: &mut M, word: ForeignWord) -> Result<(), WriteStop> {
     write_pieces(
         messages,
@@ -192,7 +193,7 @@ fn write_foreign<M: Sink>(messages: &mut M, word: ForeignWord) -> Result<(), Wri
             Piece::Bytes(word.theirs.as_bytes()),
             Piece::Bytes(b": "),
             Piece::Bytes(word.ours.as_bytes()),
-            Piece::Bytes(b" is meant?\n"),
+            Piece::Bytes(b"\n"),
         ],
     )
 }

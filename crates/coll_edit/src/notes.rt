@@ -5,7 +5,8 @@
 //! new weights are to be written. And a block that another one ends has no `reorder-end`, which may have been forgotten.
 
 use coll_devices::Sink;
-use coll_syntax::{Id, Statement, Weight};
+use coll_findings::{first_weight, sorts_elsewhere, weighs_as};
+use coll_syntax::{Id, Statement};
 use coll_table::Table;
 use coll_texts::{Piece, write_pieces};
 
@@ -34,30 +35,17 @@ pub(crate) fn note_on(table: &Table, statement: &Statement) -> Option<Note> {
     None
 }
 
-// What an entry weighs as at the first level, if it isn't itself: the first of these, where they are several.
-fn first_weight<'a>(table: &'a Table, id: &Id) -> Option<&'a Id> {
-    match table.entry(id)?.weights().first()? {
-        Weight::Names(ids) => ids.get().first(),
-        Weight::Own | Weight::Ignore => None,
-    }
-}
-
 /// Tells that a statement which was accepted leaves its weights to what it moves, unless what stands before that now weighs as the same.
 pub(crate) fn tell_note<'a, M: Sink>(messages: &mut M, table: &'a Table, note: &'a Note) {
+    if !sorts_elsewhere(table, &note.id) {
+        return;
+    }
     let Some(other) = first_weight(table, &note.id) else {
         return;
     };
-    let Some(entry) = table.entry_before(&note.id) else {
+    let Some(before) = table.entry_before(&note.id) else {
         return;
     };
-    // What stands before it weighs as another one at the first level, or as itself.
-    let before = match first_weight(table, entry.id()) {
-        Some(weight) => weight,
-        None => entry.id(),
-    };
-    if other.is_same(before) {
-        return;
-    }
     let _ = write_pieces(
         messages,
         &[
@@ -70,7 +58,7 @@ pub(crate) fn tell_note<'a, M: Sink>(messages: &mut M, table: &'a Table, note: &
             Piece::Bytes(b" at the first level, and keeps that: to sort it here, move "),
             Piece::Id(other),
             Piece::Bytes(b" behind "),
-            Piece::Id(before),
+            Piece::Id(weighs_as(before)),
             Piece::Bytes(b"\n"),
         ],
     );

@@ -8,6 +8,7 @@
 
 ghost use Rattle.coll_lex.specs.Names.{AreTokens};
 
+use coll_findings::{ForeignWord, foreign_word};
 use coll_lex::{LexFault, Lexer, Line, TextBuf, Token};
 use coll_requests::RequestFault;
 use coll_syntax::{DeltaLine, MOST_BLOCK_LINES, SyntaxFault, is_word, parse_delta_line};
@@ -45,26 +46,6 @@ pub(crate) enum Wish {
     /// What another dialect has a keyword for.
     Foreign(ForeignWord),
 }
-
-/// A keyword of another dialect, and the one that stands for it here.
-#[derive(Clone, Copy)]
-pub(crate) struct ForeignWord {
-    /// The keyword as the other dialect spells it.
-    pub theirs: &'static str,
-    /// The keyword of a delta.
-    pub ours: &'static str,
-}
-
-// The keywords of other dialects for which one of a delta stands, as a lint tells them.
-const FOREIGN: &[(&str, &str)] = &[
-    ("reset", "reorder-after"),
-    ("reset-after", "reorder-after"),
-    ("reorder_after", "reorder-after"),
-    ("reorder_end", "reorder-end"),
-    ("collating_symbol", "collating-symbol"),
-    ("collating_element", "collating-element"),
-    ("symbol_equivalence", "symbol-equivalence"),
-];
 
 /// A fault of a line that no reply tells where the line is typed.
 #[derive(Clone, Copy)]
@@ -221,22 +202,12 @@ fn wish_of(line: &Line) -> Wish {
     };
     match wish_by(word, rest.is_empty()) {
         Wish::Nothing if has_comment(tokens) => Wish::Comment,
-        Wish::Nothing => foreign_wish(word),
+        Wish::Nothing => match foreign_word(word) {
+            Some(word) => Wish::Foreign(word),
+            None => Wish::Nothing,
+        },
         wish => wish,
     }
-}
-
-// What a word asks for that begins a line of another dialect.
-fn foreign_wish(word: &Token) -> Wish {
-    for (theirs, ours) in FOREIGN {
-        if is_word(word, *theirs) {
-            return Wish::Foreign(ForeignWord {
-                theirs: *theirs,
-                ours: *ours,
-            });
-        }
-    }
-    Wish::Nothing
 }
 
 // What a word asks for, which begins a line or stands alone in it. A character alone is an order line elsewhere.

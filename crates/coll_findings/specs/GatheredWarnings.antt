@@ -29,3 +29,4 @@ Warns old new warning.ScriptWithoutEffect one = AddsOne old.scripts new.scripts 
 Warns old new warning.SymbolNeverPlaced one = AddsOne old.symbols new.symbols one × (new ≡ record old { symbols = new.symbols })
 Warns old new warning.ElementNeverPlaced one = AddsOne old.elements new.elements one × (new ≡ record old { elements = new.elements })
 Warns old new warning.ChangesNothing one = AddsOne old.unchanged new.unchanged one × (new ≡ record old { unchanged = new.unchanged })
+Warns old new warning.SortsElsewhere one = AddsOne old.elsewhere new.elsewhere one × (new ≡ record old { elsewhere = new.elsewhere })

@@ -1,3 +1,4 @@
+pub mod FirstWeights
 pub mod GatheredWarnings
 pub mod SurveyedLines
 pub mod ToldFaults

@@ -27,6 +27,8 @@ pub enum Warning {
     ElementNeverPlaced,
     /// A statement leaves the table as it was.
     ChangesNothing,
+    /// A line of a block moves what weighs as another at the first level, and so sorts elsewhere, and gives it no weights.
+    SortsElsewhere,
 }
 
 /// A warning: where it belongs, and what it is about.
@@ -102,6 +104,8 @@ pub struct Warnings {
     pub elements: WarnedKind,
     /// Statements that leave the table as it was.
     pub unchanged: WarnedKind,
+    /// Lines of blocks that move what sorts elsewhere, and give it no weights.
+    pub elsewhere: WarnedKind,
     /// Whether a byte order mark stands at the beginning of the table that a delta file is for.
     pub table_mark: bool,
 }
@@ -117,6 +121,7 @@ impl Drop for Warnings {
             symbols,
             elements,
             unchanged,
+            elsewhere,
             table_mark: _,
         } = self;
         drop(copies);
@@ -124,6 +129,7 @@ impl Drop for Warnings {
         drop(symbols);
         drop(elements);
         drop(unchanged);
+        drop(elsewhere);
     }
 }
 
@@ -138,6 +144,7 @@ impl Warnings {
             symbols: WarnedKind::none(alloc),
             elements: WarnedKind::none(alloc),
             unchanged: WarnedKind::none(alloc),
+            elsewhere: WarnedKind::none(alloc),
             table_mark: false,
         }
     }
@@ -157,6 +164,7 @@ impl Warnings {
             Warning::SymbolNeverPlaced => self.symbols.add(line, id),
             Warning::ElementNeverPlaced => self.elements.add(line, id),
             Warning::ChangesNothing => self.unchanged.add(line, id),
+            Warning::SortsElsewhere => self.elsewhere.add(line, id),
         }
     }
 }

@@ -21,6 +21,8 @@ alone_told warning.ScriptWithoutEffect = codes "script has no effect: leave it o
 alone_told warning.SymbolNeverPlaced = codes " is declared and never placed: place it, or drop its declaration\n"
 alone_told warning.ElementNeverPlaced = codes " is declared and never placed: place it, or drop its declaration\n"
 alone_told warning.ChangesNothing = codes "this changes nothing: the table is so already\n"
+alone_told warning.SortsElsewhere =
+    codes " is moved to where it doesn't sort: it weighs as another at the first level, so move that one, or write new weights\n"
 
 -- what several warnings of a kind say, before how many they are
 abbrev pub several_told : Warning → List ℕ
@@ -29,6 +31,8 @@ several_told warning.ScriptWithoutEffect = codes "script has no effect, leave it
 several_told warning.SymbolNeverPlaced = codes "declared and never placed: "
 several_told warning.ElementNeverPlaced = codes "declared and never placed: "
 several_told warning.ChangesNothing = codes "this changes nothing, the table is so already: "
+several_told warning.SortsElsewhere =
+    codes "moved to where they don't sort, as they weigh as others at the first level, so move those, or write new weights: "
 
 -- what is counted, and what leads to the first of them
 abbrev pub noun_told : Warning → List ℕ
@@ -37,6 +41,7 @@ noun_told warning.ScriptWithoutEffect = codes " times, in lines"
 noun_told warning.SymbolNeverPlaced = codes " symbols, as"
 noun_told warning.ElementNeverPlaced = codes " elements, as"
 noun_told warning.ChangesNothing = codes " statements, in lines"
+noun_told warning.SortsElsewhere = codes " lines, as"
 
 -- an identifier, if there is one
 abbrev pub id_told : Option Id → List ℕ
@@ -102,6 +107,7 @@ warnings_text names warnings =
     ∷ kind_line name warning.SymbolNeverPlaced warnings.symbols
     ∷ kind_line name warning.ElementNeverPlaced warnings.elements
     ∷ kind_line name warning.ChangesNothing warnings.unchanged
+    ∷ kind_line name warning.SortsElsewhere warnings.elsewhere
     ∷ mark_line (named names 0) warnings.table_mark
     ∷ []
     )

@@ -44,6 +44,7 @@ pub(crate) fn write_warnings<W: Sink>(
             KindLine::Kind(name, Warning::SymbolNeverPlaced, &warnings.symbols),
             KindLine::Kind(name, Warning::ElementNeverPlaced, &warnings.elements),
             KindLine::Kind(name, Warning::ChangesNothing, &warnings.unchanged),
+            KindLine::Kind(name, Warning::SortsElsewhere, &warnings.elsewhere),
             KindLine::Mark(name_of(names, 0), warnings.table_mark),
         ],
         out,
@@ -235,6 +236,9 @@ fn alone(warning: Warning) -> &'static [u8]
             b" is declared and never placed: place it, or drop its declaration\n"
         }
         Warning::ChangesNothing => b"this changes nothing: the table is so already\n",
+        Warning::SortsElsewhere => {
+            b" is moved to where it doesn't sort: it weighs as another at the first level, so move that one, or write new weights\n"
+        }
     }
 }
 
@@ -249,6 +253,9 @@ fn several(warning: Warning) -> &'static [u8]
         Warning::ScriptWithoutEffect => b"script has no effect, leave it out: ",
         Warning::SymbolNeverPlaced | Warning::ElementNeverPlaced => b"declared and never placed: ",
         Warning::ChangesNothing => b"this changes nothing, the table is so already: ",
+        Warning::SortsElsewhere => {
+            b"moved to where they don't sort, as they weigh as others at the first level, so move those, or write new weights: "
+        }
     }
 }
 
@@ -261,5 +268,6 @@ fn noun(warning: Warning) -> &'static [u8]
         Warning::SymbolNeverPlaced => b" symbols, as",
         Warning::ElementNeverPlaced => b" elements, as",
         Warning::ChangesNothing => b" statements, in lines",
+        Warning::SortsElsewhere => b" lines, as",
     }
 }

@@ -25,7 +25,7 @@ use coll_advice::{Found, faults_of};
 use coll_faults::Fault;
 use coll_findings::{
     About, Collected, Declarations, DeclaredName, Opening, Surveyed, TakesLines, Warning,
-    about_found, refused_subject, survey_lines,
+    about_found, refused_subject, sorts_elsewhere, survey_lines,
 };
 use coll_lex::{EarlyEnd, LexFault, Line, TextBuf};
 use coll_lookups::HashKeys;
@@ -355,7 +355,8 @@ impl DeltaSurvey {
         let found = faults_of(self.alloc, &self.table, &block.statement)?;
         if found.is_empty() {
             drop(found);
-            return self.put(block.begins, &block.statement, block.spoiled);
+            let numbers = block.numbers.as_slice();
+            return self.put(block.begins, &block.statement, numbers, block.spoiled);
         }
         let judged = self.judge_at_fault(block, found.as_slice());
         drop(found);
@@ -397,7 +398,7 @@ impl DeltaSurvey {
         let found = faults_of(self.alloc, &self.table, statement)?;
         if found.is_empty() {
             let in_block = self.block.is_some();
-            self.put(number, statement, in_block)?;
+            self.put(number, statement, &[], in_block)?;
             return Ok(true);
         }
         let told = tell_found(number, &[], found.as_slice(), &mut self.told);
@@ -406,8 +407,15 @@ impl DeltaSurvey {
         Ok(false)
     }
 
-    // Puts a statement without fault to the table, and warns where it changes nothing, unless a part of it was refused.
-    fn put(&mut self, number: u32, statement: &Statement, spoiled: bool) -> Result<(), AllocError>
+    // Puts a statement without fault to the table, of which these are the numbers of the lines. Unless a part of it was refused, it warns
+    // where it changes nothing, and of what it moves and leaves to sort elsewhere.
+    fn put(
+        &mut self,
+        number: u32,
+        statement: &Statement,
+        numbers: &[u32],
+        spoiled: bool,
+    ) -> Result<(), AllocError>
         ensures told { OnOk result (Tells (faults_told self.old) (faults_told self.new)
             (refused_faults (table_left self.old) number statement.now)) }
         ensures left { OnOk result (table_left self.new ≡ table_behind (table_left self.old) statement.now) }
@@ -420,10 +428,13 @@ impl DeltaSurvey {
             Ok(record) => {
                 let idle = changed_nothing(&self.table, statement, &record);
                 drop(record);
-                if idle && !spoiled {
+                if spoiled {
+                    return Ok(());
+                }
+                if idle {
                     return self.told.warn(Warning::ChangesNothing, number, None);
                 }
-                Ok(())
+                warn_of_moved(&self.table, statement, numbers, &mut self.told)
             }
             Err(Refusal::OutOfMemory) => Err(AllocError),
             Err(refusal) => tell(
@@ -496,6 +507,30 @@ fn tell_found(
         let about = about_found(fault)?;
         let line = line_of(begins, numbers, fault);
         told.tell(begins, line, Fault::Table(fault.refusal), about)?;
+    }
+    Ok(())
+}
+
+// Warns of the lines of a block, of which these are the numbers, that move what now sorts elsewhere and give it no weights.
+fn warn_of_moved(
+    table: &Table,
+    statement: &Statement,
+    numbers: &[u32],
+    told: &mut Collected,
+) -> Result<(), AllocError>
+    ensures { told.new.told.faults ≡ told.old.told.faults }
+{
+    let Statement::Block { lines, .. } = statement else {
+        return Ok(());
+    };
+    let mut left = numbers.iter();
+    for line in lines.get() {
+        let Some(number) = left.next() else {
+            return Ok(());
+        };
+        if line.weights.is_none() && sorts_elsewhere(table, &line.id) {
+            told.warn(Warning::SortsElsewhere, *number, Some(&line.id))?;
+        }
     }
     Ok(())
 }

@@ -109,6 +109,7 @@ fn assert_told(rt: &impl Abort, given: &Told, wanted: &Told) -> u32 {
     assert_kind(rt, &given.symbols, &wanted.symbols);
     assert_kind(rt, &given.elements, &wanted.elements);
     assert_kind(rt, &given.unchanged, &wanted.unchanged);
+    assert_kind(rt, &given.elsewhere, &wanted.elsewhere);
     let named = given.symbols.count.saturating_add(given.elements.count);
     given.scripts.count.saturating_add(named)
 }

@@ -14,9 +14,9 @@ use coll_advice::{nearest_name, nearest_section};
 use coll_bench::{Fault, RunFault, read_inputs};
 use coll_findings::About;
 use coll_lex::{Counted, TextBuf, past_blanks};
-use coll_lint::keep_text;
-use coll_refused_lines::{
-    RefusedLine, refused_alone, refused_at, refused_in_delta, refused_in_table, write_refused,
+use coll_lint::{
+    RefusedLine, keep_text, refused_alone, refused_at, refused_in_delta, refused_in_table,
+    write_refused,
 };
 use coll_sources::SourceFault;
 use coll_syntax::Id;

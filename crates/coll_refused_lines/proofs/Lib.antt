@@ -1,2 +1,0 @@
-pub mod MarkedLemmas
-pub mod NumberedLemmas

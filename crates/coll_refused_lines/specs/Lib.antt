@@ -1,4 +1,0 @@
-pub mod MarkedLines
-pub mod NumberedLines
-pub mod RefusedLines
-pub mod SpelledPlaces
