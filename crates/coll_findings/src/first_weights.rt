@@ -2,17 +2,16 @@
 //!
 //! What weighs as another there keeps its place in the order of texts wherever its own entry goes.
 
-ghost use Rattle.std.specs.Prelude.{◌≡◌, option_copied};
+ghost use Rattle.std.specs.Prelude.{◌≡◌, Some, option_copied};
 ghost use Rattle.coll_nodes.specs.Placement.{entry_at};
 ghost use Rattle.coll_nodes.specs.Table.{entries_of};
 ghost use Rattle.coll_nodes.specs.TableLayout.{collation};
-ghost use Rattle.coll_findings.specs.FirstWeights.{first_named, first_weight, sorts_elsewhere, weighs_as};
+ghost use Rattle.coll_findings.specs.FirstWeights.{first_weight, sorts_elsewhere, weighs_as};
 
 use coll_syntax::{Id, Weight};
 use coll_table::{Entry, Table};
 
-/// What the entry of an identifier weighs as at the first level, if there is one, and its weight there names something: the first of
-/// these, where they are several.
+/// What the entry of an identifier weighs as at the first level, if there is one, and its weight there begins with another than itself.
 pub fn first_weight<'a>(table: &'a Table, id: &Id) -> Option<&'a Id>
     ensures { option_copied result ≡ first_weight (entry_at (entries_of (collation table.now)) id.now) }
 {
@@ -22,7 +21,7 @@ pub fn first_weight<'a>(table: &'a Table, id: &Id) -> Option<&'a Id>
     }
 }
 
-/// What an entry weighs as at the first level: the first that its weight names there, or itself.
+/// What an entry weighs as at the first level: another, with which its weight there begins, or itself.
 pub fn weighs_as(entry: &Entry) -> &Id
     ensures { result.now ≡ weighs_as entry.now }
 {
@@ -45,15 +44,18 @@ pub fn sorts_elsewhere(table: &Table, id: &Id) -> bool
     }
 }
 
-// The first identifier that the weight of an entry at the first level names, if it names one.
+// The first identifier that the weight of an entry at the first level names, if that is another than the entry itself.
 fn first_named(entry: &Entry) -> Option<&Id>
-    ensures { option_copied result ≡ first_named entry.now.weights }
+    ensures { option_copied result ≡ first_weight (Some entry.now) }
 {
-    match entry.weights() {
-        [Weight::Names(ids), ..] => match ids.get() {
-            [id, ..] => Some(id),
-            [] => None,
-        },
-        _ => None,
+    let [Weight::Names(ids), ..] = entry.weights() else {
+        return None;
+    };
+    let [id, ..] = ids.get() else {
+        return None;
+    };
+    if id.is_same(entry.id()) {
+        return None;
     }
+    Some(id)
 }

@@ -1,5 +1,5 @@
 -- Names in a list, and a map that tells the place of each: where one is found, and what one more does.
-use Rattle.std.proofs.Common.{◌≡◌, ◌+◌, ◌<◌, ℕ, suc, Bool, true, false, ◌||◌, cond, not, is_some, nat_lt, List, [], ◌∷◌, ◌++◌, Option, None, Some, length, position, lt-ltb, true≢false}
+use Rattle.std.proofs.Common.{◌≡◌, ◌+◌, ℕ, suc, Bool, true, false, ◌||◌, cond, not, is_some, nat_lt, List, [], ◌∷◌, ◌++◌, Option, None, Some, length, position, lt-ltb, true≢false}
 use Rattle.std.proofs.Common.{arith, sym, ap, subst, ◌∙◌, refl}
 use Rattle.std.specs.List.{list_any, position_or_len}
 use Rattle.std.specs.Option.{option_map}

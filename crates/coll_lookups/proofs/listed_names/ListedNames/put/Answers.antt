@@ -1,6 +1,6 @@
 -- A name that is there has its place, and one that isn't goes behind all.
-use Rattle.std.proofs.Common.{◌≡◌, true, false, cond, is_some, None, length, position, ◌∷◌, ◌++◌, [], sym, ap, ◌∙◌}
-use Rattle.std.specs.List.{list_any, position_or_len}
+use Rattle.std.proofs.Common.{◌≡◌, true, cond, is_some, ◌∷◌, ◌++◌, [], sym, ap, ◌∙◌}
+use Rattle.std.specs.List.{list_any}
 use Rattle.std.specs.Option.{option_copied}
 use Rattle.coll_lookups.specs.NameKeys.{same_bytes}
 use Rattle.coll_lookups.proofs.ListedNames.{place_behind, position_found}

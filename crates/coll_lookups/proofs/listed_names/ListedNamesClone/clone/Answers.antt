@@ -1,9 +1,7 @@
 -- A copy has the same names, and tells their places.
-use Rattle.std.proofs.Common.{◌≡◌, position, sym, ap, ◌∙◌}
+use Rattle.std.proofs.Common.{ap, ◌∙◌}
 use Rattle.std.proofs.lemmas.List.Elements.{same_from_all_zip}
 use Rattle.std.proofs.lemmas.Map.Entries.{entries_from_clone}
-use Rattle.std.specs.Map.{lookup}
-use Rattle.coll_lookups.specs.NameKeys.{same_bytes}
 use Rattle.coll_lookups.proofs.listed_names.ListedNamesClone.clone.Goals as goal
 
 pub invariant_of-result : goal.invariant_of-result

@@ -3,7 +3,7 @@ use Rattle.std.proofs.Common.{not, sym, ap, ◌∙◌, chars}
 use Rattle.std.specs.Prelude.{encode_utf8_all}
 use Rattle.std.proofs.lemmas.Str.{encodes-chars}
 use Rattle.coll_syntax.specs.Identifier.{has_name}
-use Rattle.coll_lookups.specs.IdSets.{all_characters_of, AddsName, IsText}
+use Rattle.coll_lookups.specs.IdSets.{IsText}
 use Rattle.coll_lookups.proofs.NameSets.{found_name, put_adds, put_are}
 use Rattle.coll_lookups.proofs.names.Names.put_free.Goals as goal
 
