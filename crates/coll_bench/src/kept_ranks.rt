@@ -43,7 +43,6 @@ const FEW_CHARACTERS: usize = 64;
 const ENTRIES_A_CHARACTER: usize = 32;
 
 /// The ranks of a table, if they were made, and the places of its entries.
-#[derive(Drop)]
 pub(crate) struct KeptRanks {
     // All ranks, if they were made since the last change.
     ranks: Option<Ranks>,
@@ -52,6 +51,19 @@ pub(crate) struct KeptRanks {
     places: Option<EntryNumbers>,
     // How many characters were looked up by themselves since the last change.
     looked: usize,
+}
+
+// Written out, so that each place that drops one is one call, with no step for each part.
+impl Drop for KeptRanks {
+    fn drop(self) {
+        let KeptRanks {
+            ranks,
+            places,
+            looked: _,
+        } = self;
+        drop(ranks);
+        drop(places);
+    }
 }
 
 impl Model for KeptRanks {

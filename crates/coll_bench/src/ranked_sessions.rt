@@ -33,10 +33,18 @@ use std::cmp::Ordering;
 use std::marker::Model;
 
 /// A session, and what is kept beside its table.
-#[derive(Drop)]
 pub(crate) struct RankedSession {
     session: Session,
     kept: KeptRanks,
+}
+
+// Written out, so that each place that drops one is one call, with no step for each part.
+impl Drop for RankedSession {
+    fn drop(self) {
+        let RankedSession { session, kept } = self;
+        drop(session);
+        drop(kept);
+    }
 }
 
 impl Model for RankedSession {

@@ -35,11 +35,24 @@ use coll_table::Table;
 use std::alloc::{AllocError, Global};
 
 /// Where a session stands between two lines.
-#[derive(Drop)]
 pub struct RunState {
     parser: LineParser,
     block: Option<OpenBlock>,
     session: RankedSession,
+}
+
+// Written out, so that each place that drops one is one call, with no step for each part.
+impl Drop for RunState {
+    fn drop(self) {
+        let RunState {
+            parser,
+            block,
+            session,
+        } = self;
+        drop(parser);
+        drop(block);
+        drop(session);
+    }
 }
 
 impl RunState {

@@ -52,7 +52,6 @@ use coll_table::Table;
 use std::alloc::{AllocError, Global};
 
 /// Where an edit stands between two lines.
-#[derive(Drop)]
 pub struct Editor {
     run: RunState,
     typed: TypedLines,
@@ -67,6 +66,24 @@ pub struct Editor {
     // The line of the last `:quit` that told of statements which stand in no file.
     warned: Option<u32>,
     alloc: Global,
+}
+
+// Written out, so that each place that drops one is one call, with no step for each part.
+impl Drop for Editor {
+    fn drop(self) {
+        let Editor {
+            run,
+            typed,
+            lines: _,
+            answered: _,
+            full: _,
+            stored: _,
+            warned: _,
+            alloc: _,
+        } = self;
+        drop(run);
+        drop(typed);
+    }
 }
 
 // What there is to tell of a request, by what it finds before it is answered.

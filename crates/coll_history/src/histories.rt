@@ -38,7 +38,6 @@ pub struct Kept {
 }
 
 /// A table, the statements that remain, and those that were taken back.
-#[derive(Drop)]
 pub struct Session {
     /// The table as the remaining statements have made it.
     pub(crate) table: Table,
@@ -50,6 +49,23 @@ pub struct Session {
     pub(crate) numbers: EntryNumbers,
     /// Which table these are the places of.
     pub(crate) standing: Standing,
+}
+
+// Written out, so that each place that drops one is one call, with no step for each part.
+impl Drop for Session {
+    fn drop(self) {
+        let Session {
+            table,
+            remaining,
+            undone,
+            numbers,
+            standing: _,
+        } = self;
+        drop(table);
+        drop(remaining);
+        drop(undone);
+        drop(numbers);
+    }
 }
 
 impl Model for Session {

@@ -74,9 +74,18 @@ impl Bytes {
 }
 
 /// A text, which contracts see as the list of its characters.
-#[derive(Debug, Drop)]
+#[derive(Debug)]
 pub struct TextBuf {
     bytes: Bytes,
+}
+
+// Written out, so that each place that drops a text is one call, and no step for each kind of text.
+impl Drop for TextBuf {
+    #[inline]
+    fn drop(self) {
+        let TextBuf { bytes } = self;
+        drop(bytes);
+    }
 }
 
 impl Model for TextBuf {

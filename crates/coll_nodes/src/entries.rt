@@ -10,10 +10,20 @@ use coll_syntax::{Id, Weight};
 use std::alloc::AllocError;
 
 /// A place of a table's order (POSIX.1-2017, 7.3.2.4).
-#[derive(Debug, Drop)]
+#[derive(Debug)]
 pub struct Entry {
     pub(crate) id: Id,
     pub(crate) weights: ListBuf<Weight>,
+}
+
+// Written out, so that each place that drops one is one call.
+impl Drop for Entry {
+    #[inline]
+    fn drop(self) {
+        let Entry { id, weights } = self;
+        drop(id);
+        drop(weights);
+    }
 }
 
 impl Clone for Entry {

@@ -25,11 +25,24 @@ use std::marker::Model;
 ///
 /// They are those of the table as it stood when they were made, with its rules, declarations, sections and weights. After an `apply`
 /// or a `flip` that changes one of these, they are to be made anew before they are handed on with the table.
-#[derive(Drop)]
 pub struct Ranks {
     ids: IdRanks,
     elements: PlacedElements,
     weights: CompiledWeights,
+}
+
+// Written out, so that each place that drops one is one call, with no step for each part.
+impl Drop for Ranks {
+    fn drop(self) {
+        let Ranks {
+            ids,
+            elements,
+            weights,
+        } = self;
+        drop(ids);
+        drop(elements);
+        drop(weights);
+    }
 }
 
 impl Model for Ranks {

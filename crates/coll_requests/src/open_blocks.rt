@@ -67,12 +67,19 @@ impl BlockStatus {
 }
 
 /// A block that is open.
-#[derive(Drop)]
 pub struct OpenBlock {
     // The number of the line that opened it.
     line: u32,
     // What its lines amount to so far.
     status: BlockStatus,
+}
+
+// Written out, so that each place that drops one is one call, with no step for each part.
+impl Drop for OpenBlock {
+    fn drop(self) {
+        let OpenBlock { line: _, status } = self;
+        drop(status);
+    }
 }
 
 impl OpenBlock {

@@ -32,7 +32,6 @@ use indexmap::{IndexMap, IndexSet};
 use std::alloc::{AllocError, Global};
 
 /// All names that are declared. Of a name that isn't known here, the table is asked that is handed in, if there is one.
-#[derive(Drop)]
 pub struct DeclaredNames {
     // What is known here.
     names: KnownNames,
@@ -48,6 +47,27 @@ pub struct DeclaredNames {
     // Whether a range may be kept as it is.
     keeps_ranges: bool,
     alloc: Global,
+}
+
+// Written out, so that each place that drops one is one call, with no step for each part.
+impl Drop for DeclaredNames {
+    fn drop(self) {
+        let DeclaredNames {
+            names,
+            no_names,
+            strings,
+            wants_strings: _,
+            declared,
+            ranges,
+            keeps_ranges: _,
+            alloc: _,
+        } = self;
+        drop(names);
+        drop(no_names);
+        drop(strings);
+        drop(declared);
+        drop(ranges);
+    }
 }
 
 impl DeclaredNames {

@@ -136,7 +136,6 @@ impl NameGuess {
 
 /// Names, with what is known of each, in the order in which they came in. One that stands alone has an even number, and one of a range an
 /// odd one.
-#[derive(Drop)]
 pub struct KnownNames {
     // Those that stand alone.
     names: IndexMap<NameKey, Known, WordKeys>,
@@ -146,6 +145,21 @@ pub struct KnownNames {
     in_ranges: usize,
     // What is known of each of these.
     symbol: Known,
+}
+
+// Written out, so that each place that drops one is one call, with no step for each part.
+impl Drop for KnownNames {
+    fn drop(self) {
+        let KnownNames {
+            names,
+            ranges,
+            in_ranges: _,
+            symbol,
+        } = self;
+        drop(names);
+        drop(ranges);
+        drop(symbol);
+    }
 }
 
 impl KnownNames {

@@ -55,7 +55,6 @@ impl Digits {
 }
 
 /// A range of names.
-#[derive(Drop)]
 pub struct NameRange {
     // What all names begin with.
     letters: TextBuf,
@@ -67,6 +66,20 @@ pub struct NameRange {
     pub first: u32,
     /// The number of the last one.
     pub last: u32,
+}
+
+// Written out, so that each place that drops one is one call, with no step for each part.
+impl Drop for NameRange {
+    fn drop(self) {
+        let NameRange {
+            letters,
+            width: _,
+            digits: _,
+            first: _,
+            last: _,
+        } = self;
+        drop(letters);
+    }
 }
 
 impl NameRange {

@@ -22,10 +22,21 @@ pub struct Rule {
 }
 
 /// The rules of a table, one for each level: one to four.
-#[derive(Debug, Drop)]
+#[derive(Debug)]
 pub struct Rules {
     slots: [Rule; MOST_LEVELS],
     levels: usize,
+}
+
+// Written out, so that each place that drops rules is one call, with no step for each of them.
+impl Drop for Rules {
+    #[inline]
+    fn drop(self) {
+        let Rules {
+            slots: _,
+            levels: _,
+        } = self;
+    }
 }
 
 impl Model for Rules {
