@@ -41,13 +41,27 @@ struct Known {
 }
 
 /// All names that are declared.
-#[derive(Drop)]
 pub struct Meanings {
     names: IndexMap<String, Known, HashKeys>,
     // The name of the element of each string.
     strings: IndexMap<String, TextBuf, HashKeys>,
     declared: Vec<SourceStatement>,
     alloc: Global,
+}
+
+// Written out, so that each place that drops one is one call, with no step for each part.
+impl Drop for Meanings {
+    fn drop(self) {
+        let Meanings {
+            names,
+            strings,
+            declared,
+            alloc: _,
+        } = self;
+        drop(names);
+        drop(strings);
+        drop(declared);
+    }
 }
 
 impl Meanings {
