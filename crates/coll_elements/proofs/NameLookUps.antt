@@ -1,5 +1,5 @@
 -- Numbers by name: what a look-up by bytes finds, and what one more name does.
-use Rattle.std.proofs.Common.{◌≡◌, ℕ, Bool, true, false, cond, List, [], ◌∷◌, Option, Some, None, sym, ap, subst, ◌∙◌, refl}
+use Rattle.std.proofs.Common.{◌≡◌, ℕ, Bool, true, false, cond, List, [], ◌∷◌, Option, Some, None, sym, ap, subst, ⊎_elim, ◌∙◌, refl}
 use Rattle.std.specs.Prelude.{chars, string_bytes, encode_utf8_all, MatchOption}
 use Rattle.std.specs.Str.{bytes_eq, IsUtf8}
 use Rattle.std.specs.Map.{lookup, set_value, KeepsOthers}
