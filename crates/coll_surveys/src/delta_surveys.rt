@@ -4,6 +4,9 @@
 //! and a block with faults without the lines at fault, so that what comes behind is judged by as much as possible. A line of the wrong
 //! kind in a block is told, and taken as outside of one. What each line leaves is stated (`left_by` of `specs/DeltaSurveys.antt`), so what
 //! is told of a text is stated as a whole.
+//!
+//! Of a statement without fault it warns where it changes nothing (`unchanged`), and of lines that move what sorts elsewhere; of lines
+//! without effect; and of what is declared and never placed.
 
 ghost use Rattle.std.specs.Prelude.{◌≡◌, ◌∷◌, [], map, Some, IfOk, IfSome, OnOk, option_map};
 ghost use Rattle.coll_nodes.specs.TableLayout.{collation};

@@ -1,7 +1,8 @@
 //! The files that the command line names, and the devices of the program.
 //!
-//! Every file is opened before any is read, so that a name that is wrong is told at once. A file is read through a line
-//! reader, which has a buffer of its own. How many bytes a file has is asked for what is told of it alone, and may be unknown.
+//! The files of a task are opened before any is read, so that a wrong name is told at once, but for a source behind its table, its copies,
+//! and what an edit names. They are read through a line reader, which has a buffer of its own; sources and texts to lint are read whole.
+//! How many bytes a file has is asked for what is told of it alone, and may be unknown.
 
 ghost use Rattle.std.specs.Prelude.{◌≡◌, ◌<◌, length, vec_len, IfErr, IfOk};
 
