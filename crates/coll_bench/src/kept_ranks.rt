@@ -6,7 +6,7 @@
 //! for and no more. Such a look costs more by itself: where those since the last change have together more than 64 characters, and
 //! one more for each 32 entries, the ranks are made after all. What is kept is true of one table as it stands
 //! (`specs/Ranked.antt`). What changes the table goes by it: the ranks are then given up, and the places handed to the session, which
-//! has them follow the change where that takes less than giving them anew, once a look asks for them.
+//! has them follow the change where that takes less than giving them anew, once a look asks for them or the next change comes.
 
 ghost use Rattle.std.specs.Prelude.{◌≡◌, ◌≢◌, ◌≤◌, ◌+◌, ◌||◌, true, false, chars, is_some, length, None, Some, Ok, Err, IsSome, IsTrue, IfSome, IfOk, IfErr, OnOk, OnErr};
 ghost use Rattle.coll_syntax.specs.Proper.{IsProper};

@@ -1,9 +1,9 @@
 //! A session with what is kept beside its table for keys and comparisons.
 //!
 //! Ranks, and places of entries, are made where a key or an order is asked for, and kept over commands and refusals. With each
-//! change of the table the ranks are given up: an accepted statement, an undo, a redo, a withdrawal. The places follow these
-//! where they are asked for again. Whoever adds a call that changes the table has it go by what is kept. Contracts see what they
-//! see of the session, and nothing that is kept.
+//! change of the table the ranks are given up: an accepted statement, an undo, a redo, a withdrawal. The places follow a
+//! change where they are asked for again, or where a further statement or a withdrawal comes first. Whoever adds a call that changes
+//! the table has it go by what is kept. Contracts see what they see of the session, and nothing that is kept.
 
 ghost use Rattle.std.specs.Prelude.{◌≡◌, ◌≢◌, ◌≤◌, ◌||◌, true, false, chars, length, IsTrue, IfSome, IfOk, IfErr, OnOk, OnErr};
 ghost use Rattle.coll_syntax.specs.Proper.{IsProper};

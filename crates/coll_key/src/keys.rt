@@ -1,7 +1,7 @@
 //! Sort keys.
 //!
-//! A key is made level by level from the rows of the text's elements, for which room is reserved first. That keys are ordered as
-//! their texts is a law over the definitions alone.
+//! A key is made level by level from the rows of the text's elements, for which room is reserved first; behind the numbers of each
+//! level stands a 0. That keys are ordered as their texts is a law over the definitions alone.
 
 ghost use Rattle.std.specs.Prelude.{◌≡◌, ◌≢◌, ◌≤◌, ◌+◌, ◌*◌, chars, length, true, false, IfOk, IfErr};
 ghost use Rattle.std.specs.List.{flat_map};

@@ -1,7 +1,7 @@
 //! The scan of a logical line: one pass over it, physical line by physical line, in five modes.
 //!
-//! The scan has one state, `Scan`. It reads a line part by part: `parts` takes whole symbols, words and comments as slices,
-//! which `runs` finds by their bytes, and what is none of these character by character. The move for a character is `take`,
+//! The scan has one state, `Scan`. It reads a line part by part: `parts` takes whole symbols and words as slices,
+//! which `runs` finds by their bytes, and what is none of these character by character; of a comment nothing is read. The move for a character is `take`,
 //! which first settles whether it is escaped and then hands it to the mode. The other modules below have the moves of the
 //! modes: `word` outside symbols and strings, `symbol` inside symbols, `text` inside strings. A new kind of token needs a
 //! move in one of them, and perhaps a mode. No contract above this module sees the state: each move is proved to keep what

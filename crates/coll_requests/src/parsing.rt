@@ -1,8 +1,8 @@
 //! Parsing the lines of a session or of a delta file.
 //!
-//! A physical line is handed to the lexer; where it ends a logical line, that line is a command, a line of a delta,
-//! or refused. A line of a block that makes no token is read where it stands. What a line is depends on no table and on no block. What is parsed is proper, since the tokens of the lexer
-//! are as the grammar asks for.
+//! A physical line is handed to the lexer; where it ends a logical line, that line is a command, a line of a delta, or refused. A
+//! line of a block that makes no token is read where it stands. What a line is depends on no table and on no block. What is parsed is
+//! proper, since the tokens of the lexer are as the grammar asks for.
 
 ghost use Rattle.std.specs.Prelude.{◌≡◌, ◌≤◌, Bool, IfOk, IfErr, IfSome, OnErr, Ok, Err, option_map};
 ghost use Rattle.coll_lex.specs.LogicalLines.{pending, number_of, first_line, outside, dropped};

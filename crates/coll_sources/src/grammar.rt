@@ -1,7 +1,7 @@
 //! What the tokens of a line of a source say.
 //!
 //! Lines that tables have too are read by the grammar of tables. Sources have more: ranges, ellipses, and elements of one
-//! character; and in a weight they have `..`.
+//! character; and a weight may be an ellipsis (`weights`).
 
 ghost use Rattle.coll_lex.specs.Names.{AreTokens};
 

@@ -1,9 +1,9 @@
 //! A source is read, text after text.
 //!
 //! A `SourceReader` reads the text that it wants from a device, to its end. It then reads on in it: line by line, into each text that
-//! is copied, and back. Where a text is copied that it has not had, it wants that one, and stops. Each text is
-//! wanted once, however often it is copied; all lines together, those of a text that is copied again counted again, are at most as
-//! many as a text may have, and have at most `MOST_BYTES` bytes. So texts that copy each other many times over end with that fault.
+//! is copied, and back. Where a text is copied that it has not had, it wants that one, and stops. Each text is wanted once, however
+//! often it is copied; all lines together, those of a text that is copied again counted again, are at most as many as a text may have,
+//! and have at most `MOST_BYTES` bytes. So texts that copy each other many times over end with the fault of too many lines.
 //!
 //! Where a tailoring is read, a text that is copied and orders everything is the table that is tailored: it has to be there, and is not
 //! read in. Its `copy` is kept as a line (`Tailoring::Base`).

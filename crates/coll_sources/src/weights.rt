@@ -1,6 +1,7 @@
 //! The weights of an order line of a source: operands separated by semicolons.
 //!
-//! They are those of a table, and `..`, which is the identifier itself: its own weight. An empty string ignores the entry.
+//! They are those of a table, and the ellipses `..`, `...` and `....`, which are the identifier itself: its own weight. An empty
+//! string ignores the entry.
 
 use crate::operands::{Unread, is_ellipsis};
 use coll_lex::{ListBuf, Piece, Token};

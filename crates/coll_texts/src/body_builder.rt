@@ -1,10 +1,10 @@
 //! A table that grows.
 //!
 //! A `BodyBuilder` puts declarations, sections and entries behind those that are there, and answers what is there by look-ups. What
-//! contracts see of it are the two lists (`Parts` of `specs/Building.antt`); `into_body` gives the body that has them. It judges
-//! nothing: what may be put where is for its caller to know. Beside the body, which knows where its declarations end, it keeps the
-//! places where the sections and the last of them end (`IsSoundBuilder` of `specs/SoundBodies.antt` of coll_nodes), so that no call
-//! walks.
+//! contracts see of it are the two lists (`Parts` of `specs/Building.antt`); `into_body` gives the body that has them. Whether a name
+//! is free is all that it judges (`declare_free`): what else may be put where is for its caller to know. Beside the body, which knows
+//! where its declarations end, it keeps the places where the sections and the last of them end (`IsSoundBuilder` of
+//! `specs/SoundBodies.antt` of coll_nodes), so that no call walks.
 
 ghost use Rattle.std.specs.Prelude.{◌≡◌, ◌∷◌, ◌++◌, ◌&&◌, [], true, false, not, IfOk, OnOk, OnErr, length, option_copied};
 ghost use Rattle.coll_syntax.specs.Identifier.{has_name};
