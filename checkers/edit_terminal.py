@@ -48,7 +48,10 @@ OPEN_BLOCK = (
     "the end of the input, Ctrl-D at a terminal, drops it and ends the edit"
 )
 NO_COMMENT = "% begins no comment here; behind a line comment_char % it does"
-KEPT_WEIGHTS = "note: line 1 of the block: <U0041> weighs as <U0061> at the first level, and keeps that: to sort it here, move <U0061> behind <U0063>"
+KEPT_WEIGHTS = (
+    "note: line 1 of the block: <U0041> weighs as <U0061> at the first level, and <U0063> before it as itself: "
+    "to sort it here, write new weights, or move <U0061>, with all that weigh so, behind <U0063>"
+)
 C_BACK = "note: taken back: reorder-after <U0061> .. (1 line)"
 C_AGAIN = "note: put again: reorder-after <U0061> .. (1 line)"
 X_BACK = "note: taken back: collating-symbol <X>"
@@ -69,7 +72,7 @@ SESSIONS = [
             ("<BASF>", "block> "),
             ("reorder-end", "refused 34 NotDeclared\nline 1 of the block: 34 NotDeclared <BASF>: declare it with collating-symbol; is <BASE> meant?\n> "),
             ("reorder-after b", "block> "),
-            ("d d,d", "line 1 of the block: 29 BadOperand: compare with how the line is spelled; a range (..) has to be written out\nblock> "),
+            ("d d,d", "line 1 of the block: 29 BadOperand: compare with how the line is spelled; weights are parted by ;, and a range (..) has to be written out\nblock> "),
             ("reorder-end", "refused 29 BadOperand\n> "),
             ("quit", "refused 20 UnknownStatement\n20 UnknownStatement: is :quit meant?\n> "),
             (":write new.txt", "written 1\n> "),

@@ -29,7 +29,7 @@ mod texts;
 pub use advice_lines::write_advice;
 pub use found::Found;
 pub use identifiers::{copied_own_id, is_placed};
-pub use near_names::nearest_name;
+pub use near_names::{is_near, nearest_name};
 pub use near_sections::nearest_section;
 pub use sentences::{Advice, advice_of};
 pub use statements::{faults_of, subject_of};

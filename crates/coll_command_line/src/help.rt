@@ -52,7 +52,7 @@ pub(crate) const LINTED: &str =
   de.txt:116: 34 NotDeclared <d-z'>: declare it with collating-symbol; is <dz> meant?
                           file, line, number and name of a fault, what it is about, what to do, and a declared name that is near
 And behind the faults:
-  de.txt:3: warning: ..   what has no effect, where it is the only one of its kind
+  de.txt:3: warning: ..   what does less than it seems to, where it is the only one of its kind
   de.txt: warning: ..     of several of a kind, how many they are, and the first five
   de.txt: more faults aren't told
                           behind a thousand of them
@@ -90,7 +90,7 @@ pub(crate) const EXAMPLES: &str = "Examples:
   collbench import iso14651_t1 > common.txt    the table of a published source
   collbench import-delta common.txt sv_SE      the delta file of a published tailoring, for that table
   collbench check base.txt                     table entries 9 declared 3 sections 2 levels 4
-  collbench lint base.txt c_behind_a.txt       all faults of the delta file, and what has no effect in it
+  collbench lint base.txt c_behind_a.txt       all faults of the delta file, and what does less than it seems to
   collbench edit base.txt                      a session for a person; :help says what may be typed
   collbench review base.txt c_behind_a.txt words.txt  which neighbours among the words each statement parts and joins
   collbench sort base.txt < words.txt          the words, one a line, in the order of the table

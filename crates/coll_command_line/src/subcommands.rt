@@ -106,7 +106,7 @@ impl Subcommand {
                 "Tells what each statement of a delta file does to the order of words"
             }
             Subcommand::Lint => {
-                "Tells all faults of a table, or of a delta file for it, and what has no effect; the exit status is 1 where there is one"
+                "Tells all faults of a table, or of a delta file for it, and what does less than it seems to; the exit status is 1 where there is a fault"
             }
             Subcommand::Session => {
                 "Reads the lines of a session from standard input, and replies to each"

@@ -35,7 +35,7 @@ use crate::devices::OpensFiles;
 use crate::messages::{
     Hint, Origin, hint_by_name, hint_for, tell_refusal, tell_unwritten, tell_words,
 };
-use crate::notes::{Note, UNENDED, note_on, tell_note};
+use crate::notes::{UNENDED, tell_notes};
 use crate::own_lines::{OwnLine, own_line};
 use crate::stored::Stored;
 use crate::typed_lines::TypedLines;
@@ -91,8 +91,8 @@ impl Drop for Editor {
 struct Remarks {
     // What is wrong with its statement; nothing where that can't be told.
     found: Option<Vec<Found>>,
-    // What is to be noted of its statement, if it is accepted.
-    note: Option<Note>,
+    // Whether it is a statement.
+    states: bool,
     // The line of a request that is refused by itself.
     line: Option<u32>,
 }
@@ -399,7 +399,7 @@ impl Editor {
                 let table = self.run.session().table();
                 Remarks {
                     found: faults_of(self.alloc, table, statement).ok(),
-                    note: note_on(table, statement),
+                    states: true,
                     line: None,
                 }
             }
@@ -410,12 +410,12 @@ impl Editor {
                 },
             ) => Remarks {
                 found: None,
-                note: None,
+                states: false,
                 line: Some(*line),
             },
             _ => Remarks {
                 found: None,
-                note: None,
+                states: false,
                 line: None,
             },
         }
@@ -442,7 +442,7 @@ impl Editor {
     }
 
     // Tells what the refusal says that was told, if one was, with the first thing found that is refused so. That of an earlier line
-    // was told with that line. Of a statement that was accepted its note is told.
+    // was told with that line. Of a statement that was accepted its notes are told.
     fn tell_remarks<W: Sink, M: Sink>(
         &self,
         remarks: &Remarks,
@@ -451,8 +451,8 @@ impl Editor {
     ) {
         let table = self.run.session().table();
         let Some(number) = output.refusal() else {
-            if let Some(note) = &remarks.note {
-                tell_note(messages, table, note);
+            if remarks.states {
+                self.tell_accepted(messages);
             }
             return;
         };
@@ -472,6 +472,14 @@ impl Editor {
             None => Origin::Here,
         };
         tell_refusal(messages, table, number, origin, hint);
+    }
+
+    // Tells what there is to note of the last statement that remains.
+    fn tell_accepted<M: Sink>(&self, messages: &mut M) {
+        let session = self.run.session();
+        if let Some(statement) = session.remaining(session.remaining_len()) {
+            tell_notes(messages, session.table(), statement);
+        }
     }
 
     // Tells what the refusal says that was told, if one was.

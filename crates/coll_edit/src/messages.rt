@@ -186,11 +186,15 @@ fn write_meant<M: Sink>(messages: &mut M, meant: Piece<'_>) -> Result<(), WriteS
 
 // Writes a keyword of another dialect, and what to write instead, as a lint does.
 fn write_foreign<M: Sink>(messages: &mut M, word: ForeignWord) -> Result<(), WriteStop> {
+    if let Some(theirs) = word.theirs {
+        write_pieces(
+            messages,
+            &[Piece::Bytes(b" "), Piece::Bytes(theirs.as_bytes())],
+        )?;
+    }
     write_pieces(
         messages,
         &[
-            Piece::Bytes(b" "),
-            Piece::Bytes(word.theirs.as_bytes()),
             Piece::Bytes(b": "),
             Piece::Bytes(word.ours.as_bytes()),
             Piece::Bytes(b"\n"),

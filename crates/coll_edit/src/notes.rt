@@ -1,68 +1,115 @@
 //! What a person is told of a statement that is accepted, and does less than it seems to.
 //!
-//! Nothing of it is a fault, and no reply tells it: it goes to standard error behind the reply, and changes none. What weighs as another
-//! at the first level keeps its place there wherever its own line goes, so to move it does next to nothing: the other is to be moved, or
-//! new weights are to be written. And a block that another one ends has no `reorder-end`, which may have been forgotten.
+//! Nothing of it is a fault, and no reply tells it: it goes to standard error behind the reply, and changes none. An entry may stand
+//! where it doesn't sort (`is_misplaced`): new weights have it sort there, or that what it weighs as is moved, which takes all along that
+//! weigh as the same. And a block that another one ends has no `reorder-end`, which may have been forgotten.
 
 use coll_devices::Sink;
-use coll_findings::{first_weight, sorts_elsewhere, weighs_as};
-use coll_syntax::{Id, Statement};
-use coll_table::Table;
+use coll_findings::{first_weight, is_misplaced, weighs_as};
+use coll_syntax::{Id, Statement, Weight};
+use coll_table::{Entry, Table};
 use coll_texts::{Piece, write_pieces};
 
-/// A line of a block that moves an entry and gives it no weights, while that weighs as another at the first level.
-#[derive(Drop)]
-pub(crate) struct Note {
-    // What is moved.
-    id: Id,
-    // Its line in the block, from 1.
-    line: usize,
-}
+// Of so many lines of a block it is told where their entries sort; of more, how many they are.
+const MOST_NOTES: u64 = 5;
 
-/// The first such line of a statement, if it has one, over the table as it stands before; none where memory is refused.
-pub(crate) fn note_on(table: &Table, statement: &Statement) -> Option<Note> {
+/// Tells which lines of a statement that was accepted have their entries stand where they don't sort, over the table behind it.
+pub(crate) fn tell_notes<M: Sink>(messages: &mut M, table: &Table, statement: &Statement) {
     let Statement::Block { lines, .. } = statement else {
-        return None;
+        return;
     };
+    let mut misplaced: u64 = 0;
     for (place, line) in lines.get().iter().enumerate() {
-        // It moves what weighs as another at the first level, and gives it no weights.
-        if line.weights.is_none() && first_weight(table, &line.id).is_some() {
-            let id = line.id.clone().ok()?;
-            let line = place.saturating_add(1);
-            return Some(Note { id, line });
+        if is_misplaced(table, line) {
+            misplaced = misplaced.saturating_add(1);
+            if misplaced <= MOST_NOTES {
+                tell_misplaced(messages, table, place as u64, &line.id);
+            }
         }
     }
-    None
+    tell_others(messages, misplaced.saturating_sub(MOST_NOTES));
+    let _ = messages.flush();
 }
 
-/// Tells that a statement which was accepted leaves its weights to what it moves, unless what stands before that now weighs as the same.
-pub(crate) fn tell_note<'a, M: Sink>(messages: &mut M, table: &'a Table, note: &'a Note) {
-    if !sorts_elsewhere(table, &note.id) {
-        return;
-    }
-    let Some(other) = first_weight(table, &note.id) else {
+// Tells that the entry of a line, behind so many others of its block, doesn't sort behind what stands before it, and what has it sort there.
+fn tell_misplaced<'a, M: Sink>(messages: &mut M, table: &'a Table, lines_before: u64, id: &'a Id) {
+    let Some(entry) = table.entry(id) else {
         return;
     };
-    let Some(before) = table.entry_before(&note.id) else {
+    let Some(before) = table.entry_before(id) else {
         return;
     };
     let _ = write_pieces(
         messages,
         &[
             Piece::Bytes(b"note: line "),
-            Piece::Number(note.line as u64),
+            Piece::Number(lines_before.saturating_add(1)),
             Piece::Bytes(b" of the block: "),
-            Piece::Id(&note.id),
+            Piece::Id(id),
             Piece::Bytes(b" weighs as "),
-            Piece::Id(other),
-            Piece::Bytes(b" at the first level, and keeps that: to sort it here, move "),
-            Piece::Id(other),
-            Piece::Bytes(b" behind "),
+            weight_of(entry),
+            Piece::Bytes(b" at the first level, and "),
+            Piece::Id(before.id()),
+            Piece::Bytes(b" before it as "),
+            weight_of(before),
+            Piece::Bytes(b": to sort it here, write new weights"),
+        ],
+    );
+    tell_move(messages, table, entry, before);
+}
+
+// Tells, to the end of the line, that what an entry weighs as may be moved behind what the entry before weighs as, where that serves.
+fn tell_move<'a, M: Sink>(messages: &mut M, table: &'a Table, entry: &'a Entry, before: &'a Entry) {
+    let weight = weighs_as(entry);
+    if weight.is_same(entry.id()) || first_weight(table, weight).is_some() || is_ignored(before) {
+        let _ = write_pieces(messages, &[Piece::Bytes(b"\n")]);
+        return;
+    }
+    let _ = write_pieces(
+        messages,
+        &[
+            Piece::Bytes(b", or move "),
+            Piece::Id(weight),
+            Piece::Bytes(b", with all that weigh so, behind "),
             Piece::Id(weighs_as(before)),
             Piece::Bytes(b"\n"),
         ],
     );
-    let _ = messages.flush();
+}
+
+// What an entry weighs as at the first level.
+fn weight_of<'a>(entry: &'a Entry) -> Piece<'a> {
+    if is_ignored(entry) {
+        return Piece::Bytes(b"nothing");
+    }
+    let weight = weighs_as(entry);
+    if weight.is_same(entry.id()) {
+        return Piece::Bytes(b"itself");
+    }
+    Piece::Id(weight)
+}
+
+// Whether an entry is ignored at the first level.
+fn is_ignored(entry: &Entry) -> bool {
+    match entry.weights() {
+        [Weight::Ignore, ..] => true,
+        _ => false,
+    }
+}
+
+// Tells that a block has so many lines more of this kind, if it has any.
+fn tell_others<M: Sink>(messages: &mut M, others: u64) {
+    if others == 0 {
+        return;
+    }
+    let _ = write_pieces(
+        messages,
+        &[
+            Piece::Bytes(b"note: so it is with "),
+            Piece::Number(others),
+            Piece::Bytes(b" more lines of the block\n"),
+        ],
+    );
 }
 
 /// What is told of a block that ended without `reorder-end`, since another one begins.

@@ -1,10 +1,11 @@
 -- What an entry weighs as at the first level, and whether it sorts elsewhere than where it stands (the project's own).
-use Rattle.std.specs.Prelude.{Bool, false, not, if◌then◌else◌, List, [], ◌∷◌, Option, Some, None}
+use Rattle.std.specs.Prelude.{Bool, true, false, not, ◌||◌, ◌&&◌, if◌then◌else◌, List, [], ◌∷◌, Option, Some, None, is_some}
 use Rattle.coll_syntax.specs.Identifier.{same_id}
 use Rattle.coll_syntax.specs.declared.identifiers.Id.{Id}
+use Rattle.coll_syntax.specs.declared.statements.OrderLine.{OrderLine}
 use Rattle.coll_syntax.specs.declared.weights.Weight.{Weight}
 use Rattle.coll_syntax.specs.declared.weights.Weight.TheVariants.{Ignore, Own, Names}
-use Rattle.coll_nodes.specs.Beside.{entry_before, first_of}
+use Rattle.coll_nodes.specs.Beside.{entry_before, entry_behind, first_of}
 use Rattle.coll_nodes.specs.Placement.{entry_at}
 use Rattle.coll_nodes.specs.declared.entries.Entry.{Entry}
 
@@ -34,12 +35,46 @@ or_other (Some id) other = id
 abbrev pub weighs_as : Entry → Id
 weighs_as entry = or_other (first_weight (Some entry)) entry.id
 
--- what weighs as this identifier at the first level stands behind an entry that weighs as another
-abbrev pub is_apart : Option Id → Option Entry → Bool
-is_apart None before = false
-is_apart (Some weight) None = false
-is_apart (Some weight) (Some before) = not (same_id weight (weighs_as before))
+-- these weights ignore their entry at the first level
+abbrev pub ignores_first : List Weight → Bool
+ignores_first [] = false
+ignores_first (Ignore ∷ later) = true
+ignores_first (Own ∷ later) = false
+ignores_first (Names ids ∷ later) = false
 
--- the entry of an identifier weighs as another at the first level, and what stands directly before it doesn't weigh as the same
+-- an entry, if there is one, weighs as this identifier
+abbrev pub weighs_so : Id → Option Entry → Bool
+weighs_so id None = false
+weighs_so id (Some entry) = same_id id (weighs_as entry)
+
+-- what stands directly behind `before`, if something does, is `weight`; or it weighs as another, and what stands directly before
+-- `weight` weighs as `before`
+abbrev pub leads_to : List Entry → (before weight : Id) → (next : Option Entry) → Bool
+leads_to entries before weight None = false
+leads_to entries before weight (Some next) =
+    same_id weight next.id || (is_some (first_weight (Some next)) && weighs_so before (entry_before entries weight))
+
+-- what weighs as `weight` sorts as what weighs as `before` at the first level, or behind it with nothing between
+abbrev pub comes_behind : List Entry → (before weight : Id) → Bool
+comes_behind entries before weight = same_id weight before || leads_to entries before weight (entry_behind entries before)
+
+-- an entry, if there is one, weighs something at the first level, and that doesn't come behind what the entry before it weighs
+abbrev pub is_apart : List Entry → (entry before : Option Entry) → Bool
+is_apart entries None before = false
+is_apart entries (Some entry) None = false
+is_apart entries (Some entry) (Some before) =
+    not (ignores_first entry.weights || comes_behind entries (weighs_as before) (weighs_as entry))
+
+-- the entry of an identifier doesn't sort behind what stands directly before it
 abbrev pub sorts_elsewhere : List Entry → Id → Bool
-sorts_elsewhere entries id = is_apart (first_weight (entry_at entries id)) (entry_before entries id)
+sorts_elsewhere entries id = is_apart entries (entry_at entries id) (entry_before entries id)
+
+-- an entry, if there is one, weighs as one that weighs as another itself
+abbrev pub weighs_beyond : List Entry → Option Entry → Bool
+weighs_beyond entries None = false
+weighs_beyond entries (Some entry) = is_some (first_weight (entry_at entries (weighs_as entry)))
+
+-- a line whose entry doesn't sort where it stands, and seems to: it gives no weights, or weighs as what itself weighs as another
+abbrev pub is_misplaced : List Entry → OrderLine → Bool
+is_misplaced entries line =
+    (not (is_some line.weights) || weighs_beyond entries (entry_at entries line.id)) && sorts_elsewhere entries line.id

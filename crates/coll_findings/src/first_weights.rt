@@ -1,14 +1,15 @@
-//! What an entry weighs as at the first level, and whether it sorts elsewhere than where it stands.
+//! What an entry weighs as at the first level, and whether a line of a block has it stand where it doesn't sort.
 //!
-//! What weighs as another there keeps its place in the order of texts wherever its own entry goes.
+//! What weighs as another there keeps its place in the order of texts wherever its own entry goes. And what weighs as itself sorts
+//! at its own place, which is far from that of the entry before it where that one weighs as another.
 
 ghost use Rattle.std.specs.Prelude.{◌≡◌, Some, option_copied};
 ghost use Rattle.coll_nodes.specs.Placement.{entry_at};
 ghost use Rattle.coll_nodes.specs.Table.{entries_of};
 ghost use Rattle.coll_nodes.specs.TableLayout.{collation};
-ghost use Rattle.coll_findings.specs.FirstWeights.{first_weight, sorts_elsewhere, weighs_as};
+ghost use Rattle.coll_findings.specs.FirstWeights.{comes_behind, first_weight, is_misplaced, sorts_elsewhere, weighs_as, weighs_beyond, weighs_so};
 
-use coll_syntax::{Id, Weight};
+use coll_syntax::{Id, OrderLine, Weight};
 use coll_table::{Entry, Table};
 
 /// What the entry of an identifier weighs as at the first level, if there is one, and its weight there begins with another than itself.
@@ -31,15 +32,71 @@ pub fn weighs_as(entry: &Entry) -> &Id
     }
 }
 
-/// Whether the entry of an identifier weighs as another at the first level, and what stands directly before it doesn't weigh as the same.
-pub fn sorts_elsewhere(table: &Table, id: &Id) -> bool
+/// Whether a line of a block, over the table that it was put to, has its entry stand where it seems to sort and doesn't: it gives no
+/// weights, or weighs as what itself weighs as another, and doesn't sort behind what stands directly before it.
+pub fn is_misplaced(table: &Table, line: &OrderLine) -> bool
+    ensures { result ≡ is_misplaced (entries_of (collation table.now)) line.now }
+{
+    if line.weights.is_some() && !weighs_beyond(table, &line.id) {
+        return false;
+    }
+    sorts_elsewhere(table, &line.id)
+}
+
+// Whether the entry of an identifier weighs as one that weighs as another itself.
+fn weighs_beyond(table: &Table, id: &Id) -> bool
+    ensures { result ≡ weighs_beyond (entries_of (collation table.now)) (entry_at (entries_of (collation table.now)) id.now) }
+{
+    match table.entry(id) {
+        Some(entry) => match first_weight(table, weighs_as(entry)) {
+            Some(_) => true,
+            None => false,
+        },
+        None => false,
+    }
+}
+
+// Whether the entry of an identifier doesn't sort behind what stands directly before it.
+fn sorts_elsewhere(table: &Table, id: &Id) -> bool
     ensures { result ≡ sorts_elsewhere (entries_of (collation table.now)) id.now }
 {
-    let Some(weight) = first_weight(table, id) else {
+    let Some(entry) = table.entry(id) else {
         return false;
     };
-    match table.entry_before(id) {
-        Some(before) => !weight.is_same(weighs_as(before)),
+    let Some(before) = table.entry_before(id) else {
+        return false;
+    };
+    if let [Weight::Ignore, ..] = entry.weights() {
+        return false;
+    }
+    !comes_behind(table, weighs_as(before), weighs_as(entry))
+}
+
+// Whether what weighs as an identifier sorts as what weighs as another at the first level, or behind it with nothing between.
+fn comes_behind(table: &Table, before: &Id, weight: &Id) -> bool
+    ensures { result ≡ comes_behind (entries_of (collation table.now)) before.now weight.now }
+{
+    if weight.is_same(before) {
+        return true;
+    }
+    let Some(next) = table.entry_behind(before) else {
+        return false;
+    };
+    if weight.is_same(next.id()) {
+        return true;
+    }
+    match first_named(next) {
+        Some(_) => weighs_so(before, table.entry_before(weight)),
+        None => false,
+    }
+}
+
+// Whether an entry, if there is one, weighs as this identifier.
+fn weighs_so(id: &Id, entry: Option<&Entry>) -> bool
+    ensures { result ≡ weighs_so id.now (option_copied entry.entry) }
+{
+    match entry {
+        Some(entry) => id.is_same(weighs_as(entry)),
         None => false,
     }
 }

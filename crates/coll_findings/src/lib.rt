@@ -6,7 +6,7 @@
 //!
 //! - `findings`: faults that are told, with `foreign_words`: keywords of other dialects; `subjects`: what a fault is about;
 //! - `warnings`: what a text says to no purpose, by kinds (`GatheredWarnings`); `unplaced`: what is declared and never placed;
-//!   `first_weights`: what an entry weighs as at the first level, and what sorts elsewhere for that (`FirstWeights`);
+//!   `first_weights`: what an entry weighs as at the first level, and what doesn't sort where it stands (`FirstWeights`);
 //! - `collecting`: what is told, as it is gathered;
 //! - `line_surveys`: the lines of a text, handed on one after another.
 #![tactic(auto)]
@@ -22,7 +22,7 @@ mod warnings;
 
 pub use collecting::{Collected, Surveyed, Told};
 pub use findings::{About, FoundFault};
-pub use first_weights::{first_weight, sorts_elsewhere, weighs_as};
+pub use first_weights::{first_weight, is_misplaced, weighs_as};
 pub use foreign_words::{ForeignWord, foreign_word};
 pub use line_surveys::{Opening, TakesLines, first_line, survey_keywords, survey_lines};
 pub use subjects::{about_found, about_id, refused_subject, table_subject};

@@ -27,7 +27,7 @@ pub enum Warning {
     ElementNeverPlaced,
     /// A statement leaves the table as it was.
     ChangesNothing,
-    /// A line of a block moves what weighs as another at the first level, and so sorts elsewhere, and gives it no weights.
+    /// A line of a block has its entry stand where it seems to sort and doesn't (`is_misplaced`).
     SortsElsewhere,
 }
 
@@ -104,7 +104,7 @@ pub struct Warnings {
     pub elements: WarnedKind,
     /// Statements that leave the table as it was.
     pub unchanged: WarnedKind,
-    /// Lines of blocks that move what sorts elsewhere, and give it no weights.
+    /// Lines of blocks whose entries don't sort where they stand.
     pub elsewhere: WarnedKind,
     /// Whether a byte order mark stands at the beginning of the table that a delta file is for.
     pub table_mark: bool,

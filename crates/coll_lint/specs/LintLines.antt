@@ -1,5 +1,5 @@
 -- How what a lint tells is written: a line for each fault, and behind them a line for each kind of warnings (the project's own).
-use Rattle.std.specs.Prelude.{ℕ, List, [], ◌∷◌, ◌++◌, Option, Some, None, codes, decimal}
+use Rattle.std.specs.Prelude.{ℕ, List, [], ◌∷◌, ◌++◌, Option, Some, None, option_copied, codes, decimal}
 use Rattle.std.specs.List.{flat_map}
 use Rattle.coll_devices.specs.PhysicalLines.{line_feed}
 use Rattle.coll_syntax.specs.declared.identifiers.Id.{Id}
@@ -13,13 +13,18 @@ use Rattle.coll_lint.specs.WarningLines.{warnings_text}
 use Rattle.coll_lint.specs.declared.lints.Lint.{Lint}
 use Rattle.coll_findings.specs.declared.foreign_words.ForeignWord.{ForeignWord}
 
--- a keyword of another dialect, and what to write instead
-abbrev pub word_told : ForeignWord → List ℕ
-word_told word = codes " " ++ (word.theirs.now ++ (codes ": " ++ (word.ours.now ++ line_feed ∷ [])))
-
 -- what to do
 abbrev pub sentence_told : (sentence : List ℕ) → List ℕ
 sentence_told sentence = codes ": " ++ (sentence ++ line_feed ∷ [])
+
+-- a keyword of another dialect, if there is one, and what to write instead
+abbrev pub meant_told : (theirs : Option (List ℕ)) → (ours : List ℕ) → List ℕ
+meant_told None ours = sentence_told ours
+meant_told (Some theirs) ours = codes " " ++ (theirs ++ sentence_told ours)
+
+-- a keyword of another dialect, and what to write instead; or what is meant by a mistyped keyword
+abbrev pub word_told : ForeignWord → List ℕ
+word_told word = meant_told (option_copied word.theirs) word.ours.now
 
 -- an identifier, what to do, and a declared name that is near to it, if one is
 abbrev pub subject_told : (sentence : List ℕ) → Id → (near : Option (List ℕ)) → List ℕ

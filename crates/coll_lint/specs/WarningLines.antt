@@ -1,5 +1,5 @@
 -- How warnings are written: a line for each kind of them in a text (the project's own).
-use Rattle.std.specs.Prelude.{ℕ, nat_lt, Bool, if◌then◌else◌, List, [], ◌∷◌, ◌++◌, length, Option, Some, None, codes, decimal}
+use Rattle.std.specs.Prelude.{ℕ, nat_lt, Bool, true, false, if◌then◌else◌, List, [], ◌∷◌, ◌++◌, length, Option, Some, None, codes, decimal}
 use Rattle.std.specs.List.{concat, flat_map}
 use Rattle.coll_syntax.specs.declared.identifiers.Id.{Id}
 use Rattle.coll_texts.specs.PrintedParts.{id_bytes}
@@ -22,7 +22,7 @@ alone_told warning.SymbolNeverPlaced = codes " is declared and never placed: pla
 alone_told warning.ElementNeverPlaced = codes " is declared and never placed: place it, or drop its declaration\n"
 alone_told warning.ChangesNothing = codes "this changes nothing: the table is so already\n"
 alone_told warning.SortsElsewhere =
-    codes " is moved to where it doesn't sort: it weighs as another at the first level, so move that one, or write new weights\n"
+    codes " doesn't sort where it stands: its first weight is neither that of the entry before it nor directly behind that, so write new weights\n"
 
 -- what several warnings of a kind say, before how many they are
 abbrev pub several_told : Warning → List ℕ
@@ -32,7 +32,7 @@ several_told warning.SymbolNeverPlaced = codes "declared and never placed: "
 several_told warning.ElementNeverPlaced = codes "declared and never placed: "
 several_told warning.ChangesNothing = codes "this changes nothing, the table is so already: "
 several_told warning.SortsElsewhere =
-    codes "moved to where they don't sort, as they weigh as others at the first level, so move those, or write new weights: "
+    codes "entries don't sort where they stand, as their first weights are neither those of the entries before them nor directly behind those, so write new weights: "
 
 -- what is counted, and what leads to the first of them
 abbrev pub noun_told : Warning → List ℕ
@@ -53,22 +53,32 @@ abbrev pub alone_line : (name : List ℕ) → Warning → Warned → List ℕ
 alone_line name warning only =
     name ++ (codes ":" ++ (decimal only.line ++ (codes ": warning: " ++ (id_told only.id ++ alone_told warning))))
 
--- what stands for one of several: the identifier that it is about, or else its line
-abbrev pub one_of : (line : ℕ) → Option Id → List ℕ
-one_of line None = decimal line
-one_of line (Some id) = id_bytes id
+-- warnings of a kind that are about names count lines
+abbrev pub counts_lines : Warning → Bool
+counts_lines warning.CopyWithoutEffect = false
+counts_lines warning.ScriptWithoutEffect = false
+counts_lines warning.SymbolNeverPlaced = false
+counts_lines warning.ElementNeverPlaced = false
+counts_lines warning.ChangesNothing = false
+counts_lines warning.SortsElsewhere = true
 
--- one of several, behind a space
-abbrev pub one_told : Warned → List ℕ
-one_told one = codes " " ++ one_of one.line one.id
+-- what stands for one of several of a kind: the identifier that it is about, with its line where lines are counted, or else its line
+abbrev pub one_of : Warning → (line : ℕ) → Option Id → List ℕ
+one_of warning line None = decimal line
+one_of warning line (Some id) =
+    if counts_lines warning then id_bytes id ++ (codes " (line " ++ (decimal line ++ codes ")")) else id_bytes id
+
+-- one of several of a kind, behind a space
+abbrev pub one_told : Warning → Warned → List ℕ
+one_told warning one = codes " " ++ one_of warning one.line one.id
 
 -- the end of a line in which so many of a kind stand: two dots, where there are more
 abbrev pub line_end : (told count : ℕ) → List ℕ
 line_end told count = if nat_lt told count then codes " ..\n" else codes "\n"
 
 -- the first of so many of a kind, to the end of the line
-abbrev pub firsts_told : (count : ℕ) → List Warned → List ℕ
-firsts_told count firsts = flat_map one_told firsts ++ line_end (length firsts) count
+abbrev pub firsts_told : Warning → (count : ℕ) → List Warned → List ℕ
+firsts_told warning count firsts = flat_map (one_told warning) firsts ++ line_end (length firsts) count
 
 -- of several warnings of a kind, what they say, how many they are, and what is counted
 abbrev pub several_head : (name : List ℕ) → Warning → (count : ℕ) → List ℕ
@@ -80,7 +90,7 @@ abbrev pub firsts_line : (name : List ℕ) → Warning → (count : ℕ) → (fi
 firsts_line name warning count [] = []
 firsts_line name warning count (only ∷ []) = alone_line name warning only
 firsts_line name warning count (first ∷ second ∷ later) =
-    several_head name warning count ++ firsts_told count (first ∷ second ∷ later)
+    several_head name warning count ++ firsts_told warning count (first ∷ second ∷ later)
 
 -- the line of the warnings of a kind, if there are any
 abbrev pub kind_line : (name : List ℕ) → Warning → WarnedKind → List ℕ

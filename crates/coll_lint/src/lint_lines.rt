@@ -144,20 +144,30 @@ fn write_with_near<'a, W: Sink>(
     )
 }
 
-// Writes a keyword of another dialect, what to write instead, and a line feed.
+// Writes a keyword of another dialect, if it is one, what to write instead, and a line feed.
 fn write_word<W: Sink>(word: &ForeignWord, out: &mut W) -> Result<(), WriteStop>
     ensures { Writes (W.taken out.old) (W.taken out.new) (W.failed out.old) (W.failed out.new) (word_told word.now) result }
 {
-    write_pieces(
-        out,
-        &[
-            Piece::Bytes(b" "),
-            Piece::Bytes(word.theirs.as_bytes()),
-            Piece::Bytes(b": "),
-            Piece::Bytes(word.ours.as_bytes()),
-            Piece::Bytes(b"\n"),
-        ],
-    )
+    match word.theirs {
+        Some(theirs) => write_pieces(
+            out,
+            &[
+                Piece::Bytes(b" "),
+                Piece::Bytes(theirs.as_bytes()),
+                Piece::Bytes(b": "),
+                Piece::Bytes(word.ours.as_bytes()),
+                Piece::Bytes(b"\n"),
+            ],
+        ),
+        None => write_pieces(
+            out,
+            &[
+                Piece::Bytes(b": "),
+                Piece::Bytes(word.ours.as_bytes()),
+                Piece::Bytes(b"\n"),
+            ],
+        ),
+    }
 }
 
 // Writes that more of an input isn't told, if there is more.

@@ -1,4 +1,4 @@
-//! Declared names that may be meant where a name isn't declared.
+//! Declared names that may be meant where a name isn't declared, or a target has no entry.
 
 ghost use Rattle.std.specs.Prelude.{◌≡◌, length, map, OnOk};
 ghost use Rattle.coll_lint.specs.Orders.{bare_fault, bare_subject};
@@ -10,13 +10,16 @@ use coll_syntax::Id;
 use coll_table::Table;
 use std::alloc::{AllocError, Global};
 
-// The number of the fault that is looked at.
+// The number of what isn't declared.
 const NOT_DECLARED: u8 = 34;
+
+// The number of a target that has no entry.
+const TARGET_NOT_PLACED: u8 = 50;
 
 // Most faults for which a name is looked for, since each of them takes a look at all declared names.
 const MOST_SOUGHT: usize = 20;
 
-/// Gives the first faults that are about a name that isn't declared the declared name that is nearest, where one is near.
+/// Gives the first faults that are about a name which may be mistyped the declared name that is nearest, where one is near.
 pub(crate) fn seek_near_names(
     alloc: Global,
     table: &Table,
@@ -41,11 +44,16 @@ fn seek_in_turn(
 ) -> Result<usize, AllocError>
     ensures { OnOk result (bare_fault found.new ≡ bare_fault found.old) }
 {
-    if sought >= MOST_SOUGHT || found.fault.fault.number() != NOT_DECLARED {
+    if sought >= MOST_SOUGHT || !is_of_name(found.fault.fault.number()) {
         return Ok(sought);
     }
     seek_near(alloc, table, &mut found.about)?;
     Ok(sought.saturating_add(1))
+}
+
+// Whether a fault with this number may be about a name that is mistyped.
+fn is_of_name(number: u8) -> bool {
+    number == NOT_DECLARED || number == TARGET_NOT_PLACED
 }
 
 // Gives what a fault is about the declared name that is nearest, where one is near.

@@ -209,7 +209,10 @@ fn first_part(line: &[u8], most: usize) -> &[u8]
 // What a line is looked through for that has a fault with this number, which is about this.
 fn sought_for(number: u8, about: &About) -> Sought<'_> {
     match about {
-        About::Word(word) => Sought::Keyword(word.theirs),
+        About::Word(word) => match word.theirs {
+            Some(theirs) => Sought::Keyword(theirs),
+            None => Sought::FirstToken,
+        },
         About::Id { id, .. } => match number {
             FIRST_OF_GRAMMAR..=LAST_OF_GRAMMAR => sought_alone(number),
             _ => Sought::Id(id),

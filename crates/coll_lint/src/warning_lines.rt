@@ -6,7 +6,7 @@
 ghost use Rattle.std.specs.Prelude.{◌≡◌, ◌++◌, codes, map, string_bytes};
 ghost use Rattle.std.specs.List.{flat_map};
 ghost use Rattle.coll_devices.specs.Devices.{Writes};
-ghost use Rattle.coll_lint.specs.WarningLines.{alone_line, alone_told, firsts_line, firsts_told, line_told, mark_line};
+ghost use Rattle.coll_lint.specs.WarningLines.{alone_line, alone_told, counts_lines, firsts_line, firsts_told, line_told, mark_line};
 ghost use Rattle.coll_lint.specs.WarningLines.{noun_told, one_of, several_head, several_told};
 ghost use Rattle.coll_lint.specs.WarningLines.{line_end as end_of_line, warnings_text};
 
@@ -156,10 +156,10 @@ fn write_several<W: Sink>(
     out: &mut W,
 ) -> Result<(), WriteStop>
     ensures { Writes (W.taken out.old) (W.taken out.new) (W.failed out.old) (W.failed out.new)
-        (several_head name.now warning count ++ firsts_told count firsts.now) result }
+        (several_head name.now warning count ++ firsts_told warning count firsts.now) result }
 {
     match write_several_head(name, warning, count, out) {
-        Ok(()) => write_firsts(count, firsts, out),
+        Ok(()) => write_firsts(warning, count, firsts, out),
         Err(stop) => Err(stop),
     }
 }
@@ -187,28 +187,62 @@ fn write_several_head<W: Sink>(
     )
 }
 
-// Writes the first of so many warnings, to the end of their line.
-fn write_firsts<W: Sink>(count: u32, firsts: &[Warned], out: &mut W) -> Result<(), WriteStop>
+// Writes the first of so many warnings of a kind, to the end of their line.
+fn write_firsts<W: Sink>(
+    warning: Warning,
+    count: u32,
+    firsts: &[Warned],
+    out: &mut W,
+) -> Result<(), WriteStop>
     ensures { Writes (W.taken out.old) (W.taken out.new) (W.failed out.old) (W.failed out.new)
-        (firsts_told count firsts.now) result }
+        (firsts_told warning count firsts.now) result }
 {
     for one in firsts {
         // Not `?`: behind its conversion this exit would need a lemma.
-        if let Err(stop) = write_one(one.line, &one.id, out) {
+        if let Err(stop) = write_one(warning, one.line, &one.id, out) {
             return Err(stop);
         }
     }
     write_bytes(out, line_end(firsts.len(), count))
 }
 
-// Writes what stands for one of several warnings, behind a space.
-fn write_one<W: Sink>(line: u32, id: &Option<Id>, out: &mut W) -> Result<(), WriteStop>
+// Writes what stands for one of several warnings of a kind, behind a space.
+fn write_one<W: Sink>(
+    warning: Warning,
+    line: u32,
+    id: &Option<Id>,
+    out: &mut W,
+) -> Result<(), WriteStop>
     ensures { Writes (W.taken out.old) (W.taken out.new) (W.failed out.old) (W.failed out.new)
-        (codes " " ++ one_of line id.now) result }
+        (codes " " ++ one_of warning line id.now) result }
 {
     match id {
+        Some(id) if counts_lines(warning) => write_pieces(
+            out,
+            &[
+                Piece::Bytes(b" "),
+                Piece::Id(id),
+                Piece::Bytes(b" (line "),
+                Piece::Number(u64::from(line)),
+                Piece::Bytes(b")"),
+            ],
+        ),
         Some(id) => write_pieces(out, &[Piece::Bytes(b" "), Piece::Id(id)]),
         None => write_pieces(out, &[Piece::Bytes(b" "), Piece::Number(u64::from(line))]),
+    }
+}
+
+// Whether warnings of a kind that are about names count lines.
+fn counts_lines(warning: Warning) -> bool
+    ensures { result ≡ counts_lines warning }
+{
+    match warning {
+        Warning::SortsElsewhere => true,
+        Warning::CopyWithoutEffect
+        | Warning::ScriptWithoutEffect
+        | Warning::SymbolNeverPlaced
+        | Warning::ElementNeverPlaced
+        | Warning::ChangesNothing => false,
     }
 }
 
@@ -237,7 +271,7 @@ fn alone(warning: Warning) -> &'static [u8]
         }
         Warning::ChangesNothing => b"this changes nothing: the table is so already\n",
         Warning::SortsElsewhere => {
-            b" is moved to where it doesn't sort: it weighs as another at the first level, so move that one, or write new weights\n"
+            b" doesn't sort where it stands: its first weight is neither that of the entry before it nor directly behind that, so write new weights\n"
         }
     }
 }
@@ -254,7 +288,7 @@ fn several(warning: Warning) -> &'static [u8]
         Warning::SymbolNeverPlaced | Warning::ElementNeverPlaced => b"declared and never placed: ",
         Warning::ChangesNothing => b"this changes nothing, the table is so already: ",
         Warning::SortsElsewhere => {
-            b"moved to where they don't sort, as they weigh as others at the first level, so move those, or write new weights: "
+            b"entries don't sort where they stand, as their first weights are neither those of the entries before them nor directly behind those, so write new weights: "
         }
     }
 }

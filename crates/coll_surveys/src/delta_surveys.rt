@@ -5,8 +5,8 @@
 //! kind in a block is told, and taken as outside of one. What each line leaves is stated (`left_by` of `specs/DeltaSurveys.antt`), so what
 //! is told of a text is stated as a whole.
 //!
-//! Of a statement without fault it warns where it changes nothing (`unchanged`), and of lines that move what sorts elsewhere; of lines
-//! without effect; and of what is declared and never placed.
+//! Of a statement without fault it warns where it changes nothing (`unchanged`), and of lines whose entries don't sort where they
+//! stand; of lines without effect; and of what is declared and never placed.
 
 ghost use Rattle.std.specs.Prelude.{◌≡◌, ◌∷◌, [], map, Some, IfOk, IfSome, OnOk, option_map};
 ghost use Rattle.coll_nodes.specs.TableLayout.{collation};
@@ -28,7 +28,7 @@ use coll_advice::{Found, faults_of};
 use coll_faults::Fault;
 use coll_findings::{
     About, Collected, Declarations, DeclaredName, Opening, Surveyed, TakesLines, Warning,
-    about_found, refused_subject, sorts_elsewhere, survey_lines,
+    about_found, is_misplaced, refused_subject, survey_lines,
 };
 use coll_lex::{EarlyEnd, LexFault, Line, TextBuf};
 use coll_lookups::HashKeys;
@@ -411,7 +411,7 @@ impl DeltaSurvey {
     }
 
     // Puts a statement without fault to the table, of which these are the numbers of the lines. Unless a part of it was refused, it warns
-    // where it changes nothing, and of what it moves and leaves to sort elsewhere.
+    // where it changes nothing, and of what doesn't sort where it puts it.
     fn put(
         &mut self,
         number: u32,
@@ -514,7 +514,7 @@ fn tell_found(
     Ok(())
 }
 
-// Warns of the lines of a block, of which these are the numbers, that move what now sorts elsewhere and give it no weights.
+// Warns of the lines of a block, of which these are the numbers, whose entries stand where they don't sort.
 fn warn_of_moved(
     table: &Table,
     statement: &Statement,
@@ -531,7 +531,7 @@ fn warn_of_moved(
         let Some(number) = left.next() else {
             return Ok(());
         };
-        if line.weights.is_none() && sorts_elsewhere(table, &line.id) {
+        if is_misplaced(table, line) {
             told.warn(Warning::SortsElsewhere, *number, Some(&line.id))?;
         }
     }

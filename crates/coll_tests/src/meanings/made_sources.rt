@@ -71,7 +71,17 @@ const DECLARATIONS: &[&str] = &[
 ];
 
 // Weights, most of them a single name.
-const WEIGHTS: &[&str] = &["IGNORE", "..", "\"@@\"", "@", "@", "@", "@", "@"];
+const WEIGHTS: &[&str] = &[
+    "IGNORE",
+    "..",
+    "\"@@\"",
+    "\"@@@@@\"",
+    "@",
+    "@",
+    "@",
+    "@",
+    "@",
+];
 
 /// A source that is being made.
 pub struct Made {

@@ -13,8 +13,8 @@ returns-in-Err g c =
     let all = c.args.firsts.now in
     let i = c.loop-one.one-index in
     record {
-      sent = AppendsPrefix-before (taken c.args.out.now) (taken c.write_one.new.out) (flat_map one_told all) (line_end (length all) c.args.count)
-          (written_prefix one_told all (drop i all) (drop (i + 1) all) c.one-item.result (taken c.args.out.now) (taken c.loop-one.out) (taken c.write_one.new.out)
+      sent = AppendsPrefix-before (taken c.args.out.now) (taken c.write_one.new.out) (flat_map (one_told c.args.warning) all) (line_end (length all) c.args.count)
+          (written_prefix (one_told c.args.warning) all (drop i all) (drop (i + 1) all) c.one-item.result (taken c.args.out.now) (taken c.loop-one.out) (taken c.write_one.new.out)
           (left_begins all i c.one-item.result c.loop-one-test.true c.one-item.is) c.loop-one.invariant.sent c.in-Err.ensures.sent);
       errors = search rules;
     }
@@ -25,7 +25,7 @@ loop-one-preserved g c =
     let all = c.args.firsts.now in
     let i = c.loop-one.one-index in
     record {
-      sent = written_more one_told all (drop i all) (drop (i + 1) all) c.one-item.result (taken c.args.out.now) (taken c.loop-one.out) (taken c.write_one.new.out)
+      sent = written_more (one_told c.args.warning) all (drop i all) (drop (i + 1) all) c.one-item.result (taken c.args.out.now) (taken c.loop-one.out) (taken c.write_one.new.out)
           (left_begins all i c.one-item.result c.loop-one-test.true c.one-item.is) c.loop-one.invariant.sent c.in_default.ensures.sent;
       count = c.in_default.ensures.errors ∙ c.loop-one.invariant.count;
     }
@@ -36,8 +36,8 @@ returns g c =
     let all = c.args.firsts.now in
     let i = c.loop-one.one-index in
     record {
-      sent = Sends-after (taken c.args.out.now) (taken c.loop-one.out) (taken c.write_bytes.new.out) (flat_map one_told all) (line_end (length all) c.args.count) c.write_bytes.result
-          (written_all one_told all (drop i all) (taken c.args.out.now) (taken c.loop-one.out) (drop_all i all (omega (arith, c.loop-one-test.false))) c.loop-one.invariant.sent)
+      sent = Sends-after (taken c.args.out.now) (taken c.loop-one.out) (taken c.write_bytes.new.out) (flat_map (one_told c.args.warning) all) (line_end (length all) c.args.count) c.write_bytes.result
+          (written_all (one_told c.args.warning) all (drop i all) (taken c.args.out.now) (taken c.loop-one.out) (drop_all i all (omega (arith, c.loop-one-test.false))) c.loop-one.invariant.sent)
           (rw c.line_end.ensures at c.write_bytes.ensures.sent);
       errors = search rules;
     }

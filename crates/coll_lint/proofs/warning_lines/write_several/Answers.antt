@@ -9,7 +9,7 @@ returns-in-Ok g c =
     let taken = g.W.Sink.taken in
     record {
       sent = Sends-after (taken c.args.out.now) (taken c.write_several_head.new.out) (taken c.write_firsts.new.out) (several_head c.args.name.now c.args.warning c.args.count)
-          (firsts_told c.args.count c.args.firsts.now) c.write_firsts.result c.in-Ok.ensures.sent c.write_firsts.ensures.sent;
+          (firsts_told c.args.warning c.args.count c.args.firsts.now) c.write_firsts.result c.in-Ok.ensures.sent c.write_firsts.ensures.sent;
       errors = search rules;
     }
 
@@ -18,6 +18,6 @@ returns-in-Err g c =
     let taken = g.W.Sink.taken in
     record {
       sent = AppendsPrefix-before (taken c.args.out.now) (taken c.write_several_head.new.out) (several_head c.args.name.now c.args.warning c.args.count)
-          (firsts_told c.args.count c.args.firsts.now) c.in-Err.ensures.sent;
+          (firsts_told c.args.warning c.args.count c.args.firsts.now) c.in-Err.ensures.sent;
       errors = search rules;
     }
