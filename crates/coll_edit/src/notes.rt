@@ -2,7 +2,7 @@
 //!
 //! Nothing of it is a fault, and no reply tells it: it goes to standard error behind the reply, and changes none. An entry may stand
 //! where it doesn't sort (`is_misplaced`): new weights have it sort there, or that what it weighs as is moved, which takes all along that
-//! weigh as the same. And a block that another one ends has no `reorder-end`, which may have been forgotten.
+//! weigh as the same; a symbol, which has no weights, is put behind a symbol. And a block that another one ends has no `reorder-end`, which may have been forgotten.
 
 use coll_devices::Sink;
 use coll_findings::{first_weight, is_misplaced, weighs_as};
@@ -52,23 +52,45 @@ fn tell_misplaced<'a, M: Sink>(messages: &mut M, table: &'a Table, lines_before:
             Piece::Id(before.id()),
             Piece::Bytes(b" before it as "),
             weight_of(before),
-            Piece::Bytes(b": to sort it here, write new weights"),
+            Piece::Bytes(b": to sort it here, "),
         ],
     );
-    tell_move(messages, table, entry, before);
+    if table.is_symbol(id) {
+        tell_target(messages, before);
+    } else {
+        tell_weights(messages, table, entry, before);
+    }
 }
 
-// Tells, to the end of the line, that what an entry weighs as may be moved behind what the entry before weighs as, where that serves.
-fn tell_move<'a, M: Sink>(messages: &mut M, table: &'a Table, entry: &'a Entry, before: &'a Entry) {
+// Tells, to the end of the line, that a symbol, which has no weights, is to stand behind what the entry before weighs as.
+fn tell_target<'a, M: Sink>(messages: &mut M, before: &'a Entry) {
+    let _ = write_pieces(
+        messages,
+        &[
+            Piece::Bytes(b"move it behind "),
+            Piece::Id(weighs_as(before)),
+            Piece::Bytes(b"\n"),
+        ],
+    );
+}
+
+// Tells, to the end of the line, that new weights serve, or that what an entry weighs as is moved behind what the entry before weighs
+// as, where that serves too.
+fn tell_weights<'a, M: Sink>(
+    messages: &mut M,
+    table: &'a Table,
+    entry: &'a Entry,
+    before: &'a Entry,
+) {
     let weight = weighs_as(entry);
     if weight.is_same(entry.id()) || first_weight(table, weight).is_some() || is_ignored(before) {
-        let _ = write_pieces(messages, &[Piece::Bytes(b"\n")]);
+        let _ = write_pieces(messages, &[Piece::Bytes(b"write new weights\n")]);
         return;
     }
     let _ = write_pieces(
         messages,
         &[
-            Piece::Bytes(b", or move "),
+            Piece::Bytes(b"write new weights, or move "),
             Piece::Id(weight),
             Piece::Bytes(b", with all that weigh so, behind "),
             Piece::Id(weighs_as(before)),
