@@ -1,4 +1,4 @@
--- What an entry weighs as at the first level, and whether it sorts elsewhere than where it stands (the project's own).
+-- What an entry weighs as at the first level, and whether the entry of a line doesn't sort where it stands (the project's own).
 use Rattle.std.specs.Prelude.{Bool, true, false, not, ◌||◌, ◌&&◌, if◌then◌else◌, List, [], ◌∷◌, Option, Some, None, is_some}
 use Rattle.coll_syntax.specs.Identifier.{same_id}
 use Rattle.coll_syntax.specs.declared.identifiers.Id.{Id}
@@ -47,27 +47,40 @@ abbrev pub weighs_so : Id → Option Entry → Bool
 weighs_so id None = false
 weighs_so id (Some entry) = same_id id (weighs_as entry)
 
--- what stands directly behind `before`, if something does, is `weight`; or it weighs as another, and what stands directly before
--- `weight` weighs as `before`
+-- an entry, or, where it weighs as this identifier, the one directly before it
+abbrev pub past : List Entry → (weight : Id) → Option Entry → Option Entry
+past entries weight None = None
+past entries weight (Some entry) = if same_id weight (weighs_as entry) then entry_before entries entry.id else Some entry
+
+-- an entry, or the one before it past up to four that weigh as this identifier
+abbrev pub past_four : List Entry → (weight : Id) → Option Entry → Option Entry
+past_four entries weight entry = past entries weight (past entries weight (past entries weight (past entries weight entry)))
+
+-- the entry that stands before that of an identifier, past up to eight that weigh as it
+abbrev pub lead_of : List Entry → Id → Option Entry
+lead_of entries id = past_four entries id (past_four entries id (entry_before entries id))
+
+-- what stands directly behind `before`, if something does, is `weight`; or it weighs as another, and what leads to `weight` weighs as
+-- `before`
 abbrev pub leads_to : List Entry → (before weight : Id) → (next : Option Entry) → Bool
 leads_to entries before weight None = false
 leads_to entries before weight (Some next) =
-    same_id weight next.id || (is_some (first_weight (Some next)) && weighs_so before (entry_before entries weight))
+    same_id weight next.id || (is_some (first_weight (Some next)) && weighs_so before (lead_of entries weight))
 
 -- what weighs as `weight` sorts as what weighs as `before` at the first level, or behind it with nothing between
 abbrev pub comes_behind : List Entry → (before weight : Id) → Bool
 comes_behind entries before weight = same_id weight before || leads_to entries before weight (entry_behind entries before)
 
--- an entry, if there is one, weighs something at the first level, and that doesn't come behind what the entry before it weighs
+-- an entry, if there is one, weighs something at the first level, and that doesn't come behind what another one weighs
 abbrev pub is_apart : List Entry → (entry before : Option Entry) → Bool
 is_apart entries None before = false
 is_apart entries (Some entry) None = false
 is_apart entries (Some entry) (Some before) =
     not (ignores_first entry.weights || comes_behind entries (weighs_as before) (weighs_as entry))
 
--- the entry of an identifier doesn't sort behind what stands directly before it
+-- the entry of an identifier doesn't sort behind what stands before it
 abbrev pub sorts_elsewhere : List Entry → Id → Bool
-sorts_elsewhere entries id = is_apart entries (entry_at entries id) (entry_before entries id)
+sorts_elsewhere entries id = is_apart entries (entry_at entries id) (lead_of entries id)
 
 -- an entry, if there is one, weighs as one that weighs as another itself
 abbrev pub weighs_beyond : List Entry → Option Entry → Bool

@@ -1,13 +1,14 @@
 //! What an entry weighs as at the first level, and whether a line of a block has it stand where it doesn't sort.
 //!
 //! What weighs as another there keeps its place in the order of texts wherever its own entry goes. And what weighs as itself sorts
-//! at its own place, which is far from that of the entry before it where that one weighs as another.
+//! at its own place, which is far from that of the entry before it where that one weighs as another. Entries that weigh as one which
+//! stands behind them go along with it, and are passed; so many at most that a look is a fixed number of steps.
 
 ghost use Rattle.std.specs.Prelude.{◌≡◌, Some, option_copied};
 ghost use Rattle.coll_nodes.specs.Placement.{entry_at};
 ghost use Rattle.coll_nodes.specs.Table.{entries_of};
 ghost use Rattle.coll_nodes.specs.TableLayout.{collation};
-ghost use Rattle.coll_findings.specs.FirstWeights.{comes_behind, first_weight, is_misplaced, sorts_elsewhere, weighs_as, weighs_beyond, weighs_so};
+ghost use Rattle.coll_findings.specs.FirstWeights.{comes_behind, first_weight, is_misplaced, lead_of, past, past_four, sorts_elsewhere, weighs_as, weighs_beyond, weighs_so};
 
 use coll_syntax::{Id, OrderLine, Weight};
 use coll_table::{Entry, Table};
@@ -32,8 +33,39 @@ pub fn weighs_as(entry: &Entry) -> &Id
     }
 }
 
+/// The entry that stands before that of an identifier, past up to eight that weigh as it.
+pub fn lead_of<'a>(table: &'a Table, id: &Id) -> Option<&'a Entry>
+    ensures { option_copied result ≡ lead_of (entries_of (collation table.now)) id.now }
+{
+    let fifth = past_four(table, id, table.entry_before(id));
+    past_four(table, id, fifth)
+}
+
+// An entry, or the one before it past up to four that weigh as an identifier.
+fn past_four<'a>(table: &'a Table, weight: &Id, entry: Option<&'a Entry>) -> Option<&'a Entry>
+    ensures { option_copied result ≡ past_four (entries_of (collation table.now)) weight.now (option_copied entry.entry) }
+{
+    let second = past(table, weight, entry);
+    let third = past(table, weight, second);
+    let fourth = past(table, weight, third);
+    past(table, weight, fourth)
+}
+
+// An entry, or, where it weighs as an identifier, the one directly before it.
+fn past<'a>(table: &'a Table, weight: &Id, entry: Option<&'a Entry>) -> Option<&'a Entry>
+    ensures { option_copied result ≡ past (entries_of (collation table.now)) weight.now (option_copied entry.entry) }
+{
+    let Some(entry) = entry else {
+        return None;
+    };
+    if weight.is_same(weighs_as(entry)) {
+        return table.entry_before(entry.id());
+    }
+    Some(entry)
+}
+
 /// Whether a line of a block, over the table that it was put to, has its entry stand where it seems to sort and doesn't: it gives no
-/// weights, or weighs as what itself weighs as another, and doesn't sort behind what stands directly before it.
+/// weights, or weighs as what itself weighs as another, and doesn't sort behind what stands before it (`lead_of`).
 pub fn is_misplaced(table: &Table, line: &OrderLine) -> bool
     ensures { result ≡ is_misplaced (entries_of (collation table.now)) line.now }
 {
@@ -56,14 +88,14 @@ fn weighs_beyond(table: &Table, id: &Id) -> bool
     }
 }
 
-// Whether the entry of an identifier doesn't sort behind what stands directly before it.
+// Whether the entry of an identifier doesn't sort behind what stands before it.
 fn sorts_elsewhere(table: &Table, id: &Id) -> bool
     ensures { result ≡ sorts_elsewhere (entries_of (collation table.now)) id.now }
 {
     let Some(entry) = table.entry(id) else {
         return false;
     };
-    let Some(before) = table.entry_before(id) else {
+    let Some(before) = lead_of(table, id) else {
         return false;
     };
     if let [Weight::Ignore, ..] = entry.weights() {
@@ -86,7 +118,7 @@ fn comes_behind(table: &Table, before: &Id, weight: &Id) -> bool
         return true;
     }
     match first_named(next) {
-        Some(_) => weighs_so(before, table.entry_before(weight)),
+        Some(_) => weighs_so(before, lead_of(table, weight)),
         None => false,
     }
 }

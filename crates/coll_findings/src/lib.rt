@@ -22,7 +22,7 @@ mod warnings;
 
 pub use collecting::{Collected, Surveyed, Told};
 pub use findings::{About, FoundFault};
-pub use first_weights::{first_weight, is_misplaced, weighs_as};
+pub use first_weights::{first_weight, is_misplaced, lead_of, weighs_as};
 pub use foreign_words::{ForeignWord, foreign_word};
 pub use line_surveys::{Opening, TakesLines, first_line, survey_keywords, survey_lines};
 pub use subjects::{about_found, about_id, refused_subject, table_subject};

@@ -22,7 +22,7 @@ alone_told warning.SymbolNeverPlaced = codes " is declared and never placed: pla
 alone_told warning.ElementNeverPlaced = codes " is declared and never placed: place it, or drop its declaration\n"
 alone_told warning.ChangesNothing = codes "this changes nothing: the table is so already\n"
 alone_told warning.SortsElsewhere =
-    codes " doesn't sort where it stands: its first weight is neither that of the entry before it nor directly behind that, so write new weights, or put a symbol behind a symbol\n"
+    codes " doesn't sort where it stands: its first weight is neither that of the entry before it nor directly behind that, so give it weights that begin so, or put the symbol that it weighs as behind that of the entry before\n"
 
 -- what several warnings of a kind say, before how many they are
 abbrev pub several_told : Warning → List ℕ
@@ -32,7 +32,7 @@ several_told warning.SymbolNeverPlaced = codes "declared and never placed: "
 several_told warning.ElementNeverPlaced = codes "declared and never placed: "
 several_told warning.ChangesNothing = codes "this changes nothing, the table is so already: "
 several_told warning.SortsElsewhere =
-    codes "entries don't sort where they stand, as their first weights are neither those of the entries before them nor directly behind those, so write new weights, or put symbols behind symbols: "
+    codes "entries don't sort where they stand, as their first weights are neither those of the entries before them nor directly behind those, so give them weights that begin so, or put the symbols that they weigh as behind those of the entries before: "
 
 -- what is counted, and what leads to the first of them
 abbrev pub noun_told : Warning → List ℕ

@@ -271,7 +271,7 @@ fn alone(warning: Warning) -> &'static [u8]
         }
         Warning::ChangesNothing => b"this changes nothing: the table is so already\n",
         Warning::SortsElsewhere => {
-            b" doesn't sort where it stands: its first weight is neither that of the entry before it nor directly behind that, so write new weights, or put a symbol behind a symbol\n"
+            b" doesn't sort where it stands: its first weight is neither that of the entry before it nor directly behind that, so give it weights that begin so, or put the symbol that it weighs as behind that of the entry before\n"
         }
     }
 }
@@ -288,7 +288,7 @@ fn several(warning: Warning) -> &'static [u8]
         Warning::SymbolNeverPlaced | Warning::ElementNeverPlaced => b"declared and never placed: ",
         Warning::ChangesNothing => b"this changes nothing, the table is so already: ",
         Warning::SortsElsewhere => {
-            b"entries don't sort where they stand, as their first weights are neither those of the entries before them nor directly behind those, so write new weights, or put symbols behind symbols: "
+            b"entries don't sort where they stand, as their first weights are neither those of the entries before them nor directly behind those, so give them weights that begin so, or put the symbols that they weigh as behind those of the entries before: "
         }
     }
 }

@@ -437,7 +437,7 @@ impl DeltaSurvey {
                 if idle {
                     return self.told.warn(Warning::ChangesNothing, number, None);
                 }
-                warn_of_moved(&self.table, statement, numbers, &mut self.told)
+                warn_of_moved(&self.table, number, statement, numbers, &mut self.told)
             }
             Err(Refusal::OutOfMemory) => Err(AllocError),
             Err(refusal) => tell(
@@ -514,26 +514,53 @@ fn tell_found(
     Ok(())
 }
 
-// Warns of the lines of a block, of which these are the numbers, whose entries stand where they don't sort.
+// Warns of what doesn't sort where a statement at this line puts it, or the lines of a block, of which these are the numbers.
 fn warn_of_moved(
     table: &Table,
+    number: u32,
     statement: &Statement,
     numbers: &[u32],
     told: &mut Collected,
 ) -> Result<(), AllocError>
     ensures { told.new.told.faults ≡ told.old.told.faults }
 {
-    let Statement::Block { lines, .. } = statement else {
-        return Ok(());
-    };
+    match statement {
+        Statement::Block { lines, .. } => warn_of_lines(table, lines.get(), numbers, told),
+        Statement::Reweight(line) => warn_of_line(table, line, number, told),
+        _ => Ok(()),
+    }
+}
+
+// Warns of the lines of a block, of which these are the numbers, whose entries stand where they don't sort.
+fn warn_of_lines(
+    table: &Table,
+    lines: &[OrderLine],
+    numbers: &[u32],
+    told: &mut Collected,
+) -> Result<(), AllocError>
+    ensures { told.new.told.faults ≡ told.old.told.faults }
+{
     let mut left = numbers.iter();
-    for line in lines.get() {
+    for line in lines {
         let Some(number) = left.next() else {
             return Ok(());
         };
-        if is_misplaced(table, line) {
-            told.warn(Warning::SortsElsewhere, *number, Some(&line.id))?;
-        }
+        warn_of_line(table, line, *number, told)?;
+    }
+    Ok(())
+}
+
+// Warns of a line with this number whose entry stands where it doesn't sort.
+fn warn_of_line(
+    table: &Table,
+    line: &OrderLine,
+    number: u32,
+    told: &mut Collected,
+) -> Result<(), AllocError>
+    ensures { told.new.told.faults ≡ told.old.told.faults }
+{
+    if is_misplaced(table, line) {
+        told.warn(Warning::SortsElsewhere, number, Some(&line.id))?;
     }
     Ok(())
 }
