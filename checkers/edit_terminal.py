@@ -50,7 +50,7 @@ OPEN_BLOCK = (
 NO_COMMENT = "% begins no comment here; behind a line comment_char % it does"
 KEPT_WEIGHTS = (
     "note: line 1 of the block: <U0041> weighs as <U0061> at the first level, and <U0063> before it as itself: "
-    "to sort it here, write new weights, or move <U0061>, with all that weigh so, behind <U0063>"
+    "to sort it here, give it weights that begin with <U0063>, or with a symbol of its own put behind <U0063>"
 )
 C_BACK = "note: taken back: reorder-after <U0061> .. (1 line)"
 C_AGAIN = "note: put again: reorder-after <U0061> .. (1 line)"

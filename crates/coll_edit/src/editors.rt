@@ -32,9 +32,7 @@ mod own_answers;
 use crate::changes::{Asked, PUT_AGAIN, TAKEN_BACK, Told, asked_of, tell_statement, told_of};
 use crate::copies::copied_statement;
 use crate::devices::OpensFiles;
-use crate::messages::{
-    Hint, Origin, hint_by_name, hint_for, tell_refusal, tell_unwritten, tell_words,
-};
+use crate::messages::{Hint, Origin, hint_for, tell_refusal, tell_unwritten, tell_words};
 use crate::notes::{UNENDED, tell_notes};
 use crate::own_lines::{OwnLine, own_line};
 use crate::stored::Stored;
@@ -428,7 +426,7 @@ impl Editor {
     {
         let is_open = self.run.is_open();
         if let Some(fault) = self.typed.untold(was_open, is_open, completes) {
-            let hint = hint_for(self.typed.wish(), self.typed.name(), fault.number);
+            let hint = hint_for(&self.typed, fault.number);
             let table = self.run.session().table();
             let origin = match fault.line {
                 Some(line) => Origin::Block(line),
@@ -465,7 +463,7 @@ impl Editor {
         }
         let hint = match output.needed_by() {
             Some(statement) => Hint::NeededBy(statement),
-            None => hint_for(self.typed.wish(), self.typed.name(), number),
+            None => hint_for(&self.typed, number),
         };
         let origin = match remarks.first_with(number) {
             Some(found) => Origin::Found(found),
@@ -502,7 +500,7 @@ impl Editor {
         };
         let (origin, hint) = match own {
             OwnLine::Show(id) => (Origin::Id(id), Hint::Nothing),
-            OwnLine::Wrong(_) => (Origin::Here, hint_by_name(self.typed.name(), number)),
+            OwnLine::Wrong(_) => (Origin::Here, hint_for(&self.typed, number)),
             _ => (Origin::Here, Hint::Nothing),
         };
         let table = self.run.session().table();

@@ -4,7 +4,7 @@
 //! and no fault of a session counts it.
 
 use crate::devices::FileReason;
-use crate::typed_lines::Wish;
+use crate::typed_lines::{TypedLines, Wish};
 use coll_advice::{Found, advice_of, nearest_name, nearest_section, write_advice};
 use coll_devices::{Sink, WriteStop};
 use coll_findings::ForeignWord;
@@ -14,6 +14,8 @@ use coll_texts::{Piece, write_pieces};
 
 // The numbers of faults of which more is told than their sentence.
 const UNKNOWN_STATEMENT: u8 = 20;
+
+const MISSING_OPERAND: u8 = 21;
 
 const EXTRA_OPERAND: u8 = 22;
 
@@ -100,27 +102,35 @@ pub(crate) enum Hint<'a> {
     Name(&'a str),
     /// The line begins with this keyword of another dialect.
     Foreign(ForeignWord),
+    /// The line is a command with other operands than it has.
+    Spelling,
 }
 
-/// What to do about a refusal with a number, where a line has this name without its brackets, if it has one.
-pub(crate) fn hint_by_name(name: Option<&str>, number: u8) -> Hint<'_> {
-    match name {
-        Some(name) if number == UNKNOWN_STATEMENT || number == BAD_OPERAND => Hint::Name(name),
-        _ => Hint::Nothing,
-    }
-}
-
-/// What to do about a refusal with a number, where a line asks for something in this way, or has this name without its brackets.
-pub(crate) fn hint_for(wish: Wish, name: Option<&str>, number: u8) -> Hint<'_> {
-    match wish {
+/// What to do about a refusal of the line that was typed last, with a number.
+pub(crate) fn hint_for(typed: &TypedLines, number: u8) -> Hint<'_> {
+    match typed.wish() {
         Wish::Help if is_of_word(number) => Hint::Meant(":help"),
         Wish::End if is_of_word(number) => Hint::Meant(":quit"),
         Wish::EndHere if number == BLOCK_OPEN => Hint::OpenBlock,
         Wish::Comment if is_of_word(number) => Hint::Comment,
         Wish::Comment if number == EXTRA_OPERAND || number == BAD_OPERAND => Hint::Comment,
         Wish::Foreign(word) if number == UNKNOWN_STATEMENT => Hint::Foreign(word),
-        _ => hint_by_name(name, number),
+        _ => hint_by_words(typed, number),
     }
+}
+
+// What to do about such a refusal by the names of the line, or since it is a command.
+fn hint_by_words(typed: &TypedLines, number: u8) -> Hint<'_> {
+    match typed.name() {
+        Some(name) if number == UNKNOWN_STATEMENT || number == BAD_OPERAND => Hint::Name(name),
+        _ if typed.is_command() && is_of_spelling(number) => Hint::Spelling,
+        _ => Hint::Nothing,
+    }
+}
+
+// Whether a command is refused for its operands.
+fn is_of_spelling(number: u8) -> bool {
+    number == MISSING_OPERAND || number == EXTRA_OPERAND || number == BAD_OPERAND
 }
 
 // Whether a word or a character is refused as what it isn't.
@@ -168,6 +178,7 @@ fn write_told<M: Sink>(
         Hint::NeededBy(number) => write_needed(messages, number),
         Hint::Name(name) => write_meant(messages, Piece::Symbol(name)),
         Hint::Foreign(word) => write_foreign(messages, word),
+        Hint::Spelling => write_pieces(messages, &[Piece::Bytes(SPELLING)]),
     }
 }
 
@@ -177,6 +188,9 @@ const OPEN_BLOCK: &[u8] =
 
 // What a line says that was meant as a comment.
 const NO_COMMENT: &[u8] = b": % begins no comment here; behind a line comment_char % it does\n";
+
+// Where a command is looked up.
+const SPELLING: &[u8] = b": look with :help how the command is spelled\n";
 
 // Writes which command is meant, or which name between its brackets.
 fn write_meant<M: Sink>(messages: &mut M, meant: Piece<'_>) -> Result<(), WriteStop> {

@@ -1,50 +1,67 @@
 //! What a person is told of a statement that is accepted, and does less than it seems to.
 //!
 //! Nothing of it is a fault, and no reply tells it: it goes to standard error behind the reply, and changes none. An entry may stand
-//! where it doesn't sort (`is_misplaced`): new weights have it sort there, or that what it weighs as is moved, which takes all along that
-//! weigh as the same; a symbol, which has no weights, is put behind a symbol. And a block that another one ends has no `reorder-end`, which may have been forgotten.
+//! where it doesn't sort (`is_misplaced`): it is told with which weights it does. Where it weighs alike the entry before it but for the
+//! letter, that letter's symbol may be moved as well, which takes all along that weigh as the same; others would turn a letter and what
+//! varies it round. A symbol, which has no weights, is put behind a symbol. And a block that another one ends has no `reorder-end`,
+//! which may have been forgotten.
 
+use crate::messages::tell_words;
 use coll_devices::Sink;
-use coll_findings::{first_weight, is_misplaced, weighs_as};
-use coll_syntax::{Id, Statement, Weight};
+use coll_findings::{first_weight, is_misplaced, lead_of, weighs_as};
+use coll_syntax::{Id, OrderLine, Statement, Weight};
 use coll_table::{Entry, Table};
 use coll_texts::{Piece, write_pieces};
 
 // Of so many lines of a block it is told where their entries sort; of more, how many they are.
 const MOST_NOTES: u64 = 5;
 
-/// Tells which lines of a statement that was accepted have their entries stand where they don't sort, over the table behind it.
+/// Tells of a statement that was accepted which entries stand where they don't sort, over the table behind it.
 pub(crate) fn tell_notes<M: Sink>(messages: &mut M, table: &Table, statement: &Statement) {
-    let Statement::Block { lines, .. } = statement else {
-        return;
-    };
+    match statement {
+        Statement::Block { lines, .. } => tell_lines(messages, table, lines.get()),
+        Statement::Reweight(line) => {
+            if is_misplaced(table, line) {
+                tell_misplaced(messages, table, None, &line.id);
+            }
+        }
+        _ => return,
+    }
+    let _ = messages.flush();
+}
+
+// Tells which lines of a block have their entries stand where they don't sort.
+fn tell_lines<M: Sink>(messages: &mut M, table: &Table, lines: &[OrderLine]) {
     let mut misplaced: u64 = 0;
-    for (place, line) in lines.get().iter().enumerate() {
+    for (place, line) in lines.iter().enumerate() {
         if is_misplaced(table, line) {
             misplaced = misplaced.saturating_add(1);
             if misplaced <= MOST_NOTES {
-                tell_misplaced(messages, table, place as u64, &line.id);
+                tell_misplaced(messages, table, Some(place as u64), &line.id);
             }
         }
     }
     tell_others(messages, misplaced.saturating_sub(MOST_NOTES));
-    let _ = messages.flush();
 }
 
-// Tells that the entry of a line, behind so many others of its block, doesn't sort behind what stands before it, and what has it sort there.
-fn tell_misplaced<'a, M: Sink>(messages: &mut M, table: &'a Table, lines_before: u64, id: &'a Id) {
+// Tells that the entry of a line, behind so many others of its block if it stands in one, doesn't sort behind what stands before it, and
+// what has it sort there.
+fn tell_misplaced<'a, M: Sink>(
+    messages: &mut M,
+    table: &'a Table,
+    lines_before: Option<u64>,
+    id: &'a Id,
+) {
     let Some(entry) = table.entry(id) else {
         return;
     };
-    let Some(before) = table.entry_before(id) else {
+    let Some(before) = lead_of(table, id) else {
         return;
     };
+    tell_line(messages, lines_before);
     let _ = write_pieces(
         messages,
         &[
-            Piece::Bytes(b"note: line "),
-            Piece::Number(lines_before.saturating_add(1)),
-            Piece::Bytes(b" of the block: "),
             Piece::Id(id),
             Piece::Bytes(b" weighs as "),
             weight_of(entry),
@@ -52,51 +69,130 @@ fn tell_misplaced<'a, M: Sink>(messages: &mut M, table: &'a Table, lines_before:
             Piece::Id(before.id()),
             Piece::Bytes(b" before it as "),
             weight_of(before),
-            Piece::Bytes(b": to sort it here, "),
         ],
     );
     if table.is_symbol(id) {
         tell_target(messages, before);
+    } else if is_ignored(before) {
+        tell_words(messages, NO_PLACE);
     } else {
         tell_weights(messages, table, entry, before);
     }
 }
+
+// Tells that something is noted, and of which line of a block, if it is of one.
+fn tell_line<M: Sink>(messages: &mut M, lines_before: Option<u64>) {
+    let _ = write_pieces(messages, &[Piece::Bytes(b"note: ")]);
+    if let Some(lines_before) = lines_before {
+        let _ = write_pieces(
+            messages,
+            &[
+                Piece::Bytes(b"line "),
+                Piece::Number(lines_before.saturating_add(1)),
+                Piece::Bytes(b" of the block: "),
+            ],
+        );
+    }
+}
+
+// What is told of an entry behind one that is ignored at the first level.
+const NO_PLACE: &[u8] = b", behind which nothing sorts: choose another target
+";
 
 // Tells, to the end of the line, that a symbol, which has no weights, is to stand behind what the entry before weighs as.
 fn tell_target<'a, M: Sink>(messages: &mut M, before: &'a Entry) {
     let _ = write_pieces(
         messages,
         &[
-            Piece::Bytes(b"move it behind "),
+            Piece::Bytes(b": to sort it here, move it behind "),
             Piece::Id(weighs_as(before)),
             Piece::Bytes(b"\n"),
         ],
     );
 }
 
-// Tells, to the end of the line, that new weights serve, or that what an entry weighs as is moved behind what the entry before weighs
-// as, where that serves too.
+// Tells, to the end of the line, which weights an entry sorts with behind the one before it; and that what it weighs as may be moved
+// behind what that one weighs as, where they differ as two letters do.
 fn tell_weights<'a, M: Sink>(
     messages: &mut M,
     table: &'a Table,
     entry: &'a Entry,
     before: &'a Entry,
 ) {
-    let weight = weighs_as(entry);
-    if weight.is_same(entry.id()) || first_weight(table, weight).is_some() || is_ignored(before) {
-        let _ = write_pieces(messages, &[Piece::Bytes(b"write new weights\n")]);
-        return;
-    }
+    let behind = weighs_as(before);
     let _ = write_pieces(
         messages,
         &[
-            Piece::Bytes(b"write new weights, or move "),
-            Piece::Id(weight),
-            Piece::Bytes(b", with all that weigh so, behind "),
-            Piece::Id(weighs_as(before)),
-            Piece::Bytes(b"\n"),
+            Piece::Bytes(b": to sort it here, give it weights that begin with "),
+            Piece::Id(behind),
+            Piece::Bytes(b", or with a symbol of its own put behind "),
+            Piece::Id(behind),
         ],
     );
+    if differ_by_letter(table, entry, before) {
+        let _ = write_pieces(
+            messages,
+            &[
+                Piece::Bytes(b"; or move "),
+                Piece::Id(weighs_as(entry)),
+                Piece::Bytes(b", with all that weigh so, behind "),
+                Piece::Id(behind),
+            ],
+        );
+    }
+    let _ = write_pieces(messages, &[Piece::Bytes(b"\n")]);
+}
+
+// Whether an entry has the place of another one at the first level, which has its own there, and weighs as the entry before it at
+// all other levels.
+fn differ_by_letter(table: &Table, entry: &Entry, before: &Entry) -> bool {
+    let ([first, levels @ ..], [_, before_levels @ ..]) = (entry.weights(), before.weights()) else {
+        return false;
+    };
+    let Some(letter) = one_name(entry, first) else {
+        return false;
+    };
+    if letter.is_same(entry.id()) || first_weight(table, letter).is_some() {
+        return false;
+    }
+    weigh_alike(entry, levels, before, before_levels)
+}
+
+// Whether an entry and another one weigh alike by these weights.
+fn weigh_alike(entry: &Entry, weights: &[Weight], other: &Entry, others: &[Weight]) -> bool {
+    if weights.len() != others.len() {
+        return false;
+    }
+    for (level, weight) in weights.iter().enumerate() {
+        match others.get(level) {
+            Some(its) if is_alike(entry, weight, other, its) => {}
+            _ => return false,
+        }
+    }
+    true
+}
+
+// Whether weights of two entries at a level are both ignored, the same name, or each its entry itself.
+fn is_alike(entry: &Entry, weight: &Weight, other: &Entry, its: &Weight) -> bool {
+    match (one_name(entry, weight), one_name(other, its)) {
+        (Some(name), Some(its_name)) => {
+            name.is_same(its_name) || (name.is_same(entry.id()) && its_name.is_same(other.id()))
+        }
+        (None, None) => matches!((weight, its), (Weight::Ignore, Weight::Ignore)),
+        _ => false,
+    }
+}
+
+// The one identifier that a weight of an entry names, or that it is.
+fn one_name<'a>(entry: &'a Entry, weight: &'a Weight) -> Option<&'a Id> {
+    match weight {
+        Weight::Ignore => None,
+        Weight::Own => Some(entry.id()),
+        Weight::Names(ids) => match ids.get() {
+            [id] => Some(id),
+            _ => None,
+        },
+    }
 }
 
 // What an entry weighs as at the first level.

@@ -116,6 +116,11 @@ impl TypedLines {
         }
     }
 
+    /// Whether the last line is a command.
+    pub fn is_command(&self) -> bool {
+        matches!(&self.last, TypedLine::Command)
+    }
+
     /// Whether the last line begins a block.
     pub fn opens(&self) -> bool {
         matches!(&self.last, TypedLine::Opening)
