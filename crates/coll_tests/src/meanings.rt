@@ -273,17 +273,30 @@ const OF_FULL: &[&str] = &[
     "N", "M", "S00000", "S1FFFF", "S3FFFE", "S3FFFF", "T00001", "T1FFFF",
 ];
 
-// Asserts that the same is told of a source with these declarations, with its ranges kept as they are.
+// Asserts that this is told of lines and of names, with ranges kept as they are or names one by one.
+fn assert_named(
+    rt: &impl Abort,
+    alloc: Global,
+    keeps_ranges: bool,
+    lines: &[SourceLine],
+    ids: &[Id],
+    wanted: &[u8],
+) {
+    let form = named_form(rt, alloc, None, &[], keeps_ranges);
+    let given = told(rt, alloc, form, lines, ids);
+    assert_text(rt, alloc, &given, wanted);
+    drop(given);
+}
+
+// Asserts that the same is told of a source with these declarations by each form.
 fn assert_full(rt: &impl Abort, alloc: Global, declared: &str) {
     let ids = all_named(rt, alloc, OF_FULL);
     let text = source(rt, alloc, declared, "");
     let lines = said(rt, alloc, &text);
     drop(text);
     let wanted = told(rt, alloc, plain_form(rt, alloc, None, &[]), &lines, &ids);
-    let form = named_form(rt, alloc, None, &[], true);
-    let given = told(rt, alloc, form, &lines, &ids);
-    assert_text(rt, alloc, &given, &wanted);
-    drop(given);
+    assert_named(rt, alloc, true, &lines, &ids, &wanted);
+    assert_named(rt, alloc, false, &lines, &ids, &wanted);
     drop(wanted);
     drop(lines);
     drop(ids);
