@@ -1,8 +1,9 @@
 -- Names in a list, and a map that tells the place of each: where one is found, and what one more does.
-use Rattle.std.proofs.Common.{◌≡◌, ◌+◌, ℕ, suc, Bool, true, false, ◌||◌, cond, not, is_some, nat_lt, List, [], ◌∷◌, ◌++◌, Option, None, Some, length, position, lt-ltb, true≢false}
+use Rattle.std.proofs.Common.{◌≡◌, ◌+◌, ◌<◌, ℕ, suc, Bool, true, false, ◌||◌, cond, not, is_some, nat_lt, List, [], ◌∷◌, ◌++◌, Option, None, Some, length, position, lt-ltb, true≢false}
 use Rattle.std.proofs.Common.{arith, sym, ap, subst, ◌∙◌, refl}
 use Rattle.std.specs.List.{list_any, position_or_len}
-use Rattle.std.specs.Option.{option_map}
+use Rattle.std.proofs.lemmas.List.Quantifiers.{position-Some}
+use Rattle.std.specs.Option.{option_map, unwrap_or}
 use Rattle.std.specs.Prelude.{chars, encode_utf8_all}
 use Rattle.std.specs.Str.{bytes_eq}
 use Rattle.std.specs.HashMap.{HashMap, get, get_by}
@@ -55,6 +56,23 @@ module _ {K : Type 0} (test : K → Bool) where
     by true later = refl
     by false later = next (position test ks) ∙ later
 
+  -- where the place that is told, or else the one behind all, is that behind all, none passes
+  pub none_passes : (ks : List K) (d : K) → unwrap_or (position test ks) (length ks) ≡ length ks → list_any test ks ≡ false
+  none_passes ks d behind = by (position test ks) refl where
+    by : (place : Option ℕ) → position test ks ≡ place → list_any test ks ≡ false
+    by None is = sym (position_found ks) ∙ ap is_some is
+    by (Some place) is =
+        let within : place < length ks = (position-Some test ks place d is).0 in
+        let there : place ≡ length ks = sym (ap (λ o. unwrap_or o (length ks)) is) ∙ behind in
+        absurd (omega (arith, within, there))
+
+  -- and where it is another one, one passes
+  pub one_passes : (ks : List K) → (unwrap_or (position test ks) (length ks) ≡ length ks → ⊥) → list_any test ks ≡ true
+  one_passes ks before = by (position test ks) refl where
+    by : (place : Option ℕ) → position test ks ≡ place → list_any test ks ≡ true
+    by None is = absurd (before (ap (λ o. unwrap_or o (length ks)) is))
+    by (Some place) is = sym (position_found ks) ∙ ap is_some is
+
   -- the place behind all is told where none passes
   pub place_behind : (ks : List K) → list_any test ks ≡ false → position_or_len test ks ≡ length ks
   place_behind [] none = refl
@@ -93,3 +111,10 @@ places_with keys key copy old new none copied put h other =
     ∙ by_test (λ b. same_bytes other key ≡ b → cond b (Some (length keys)) (get same_bytes old other) ≡ position (same_bytes other) (keys ++ key ∷ [])) (same_bytes other key)
     (λ on t. sym (position_last (same_bytes other) keys key (alike key other t keys ∙ none) t))
     (λ off t. h other ∙ sym (position_still (same_bytes other) keys key t)) refl)
+
+-- the place that a map tells of a copy of a name, or else that behind all
+pub told_place : {S : Type 0} (keys : List NameKey) (key copy : NameKey) (places : HashMap NameKey ℕ S) (last place : ℕ) → copy.name ≡ key.name → last ≡ length keys
+    → place ≡ unwrap_or (get same_bytes places copy) last → HasPlacesOf keys places → place ≡ unwrap_or (position (same_bytes key) keys) (length keys)
+told_place keys key copy places last place copied behind told h =
+    told ∙ (ap (λ (name : List ℕ). unwrap_or (get same_bytes places (record { name = name })) last) copied
+    ∙ (ap (λ found. unwrap_or found last) (h key) ∙ ap (unwrap_or (position (same_bytes key) keys)) behind))

@@ -4,7 +4,8 @@
 //! it is guessed to stand. So a guess that is right needs no hash, and a copy shares both (`node_names`). The map is that of `std`: whoever
 //! has a table has a `ListedNames`, and a map that keeps an order would be loaded by every proof about it.
 
-ghost use Rattle.std.specs.Prelude.{◌≡◌, [], ◌∷◌, ◌++◌, false, length, position, is_some, IfOk, OnOk, OnErr};
+ghost use Rattle.std.specs.Prelude.{◌≡◌, [], Some, position, is_some, unwrap_or, IfOk, OnOk, OnErr};
+ghost use Rattle.std.specs.HashMap.{get, IsUnchanged, Updates};
 ghost use Rattle.std.specs.List.{list_any, position_or_len};
 ghost use Rattle.std.specs.Str.{bytes_eq};
 ghost use Rattle.coll_lookups.specs.NameKeys.{bytes_of, same_bytes};
@@ -84,26 +85,29 @@ impl ListedNames {
         ensures ok { OnOk result (self.new ≡ with_key same_bytes self.old key) }
         ensures err { OnErr result (self.new ≡ self.old) }
     {
-        match self.places.get(&key) {
-            Some(place) => Ok(*place),
-            None => self.put_last(key),
-        }
-    }
-
-    // Puts a name that isn't there behind all others, and answers its place.
-    fn put_last(&mut self, key: NameKey) -> Result<usize, AllocError>
-        requires { list_any (same_bytes key) self.old ≡ false }
-        ensures place { IfOk result (λ place. place ≡ length self.old) }
-        ensures ok { OnOk result (self.new ≡ self.old ++ key ∷ []) }
-        ensures err { OnErr result (self.new ≡ self.old) }
-    {
-        let place = self.keys.len();
+        let last = self.keys.len();
         self.keys.reserve(1)?;
         let copy = key.clone()?;
-        self.places.insert(copy, place)?;
-        self.keys.push_reserved(key);
+        let place = put_place(&mut self.places, copy, last)?;
+        if place == last {
+            self.keys.push_reserved(key);
+        }
         Ok(place)
     }
+}
+
+// The place of a name, which is this one from now on if it wasn't there: one look-up both asks and puts it in.
+fn put_place(
+    places: &mut HashMap<NameKey, usize, WordKeys>,
+    key: NameKey,
+    last: usize,
+) -> Result<usize, AllocError>
+    ensures place { IfOk result (λ place. place ≡ unwrap_or (get same_bytes places.old key) last) }
+    ensures ok { IfOk result (λ place. Updates same_bytes places.old places.new key (Some place)) }
+    ensures err { OnErr result (IsUnchanged places.old places.new) }
+{
+    let place = *places.entry(key)?.or_insert(last);
+    Ok(place)
 }
 
 impl Clone for ListedNames {
