@@ -28,9 +28,13 @@ UNKNOWN = "look for a mistyped keyword, a line of deltas in a table (copy, reord
 EXTRA = "take the rest of the line away; between operands of weights stand semicolons, and no range (..)"
 NO_CATEGORY = "write the line LC_COLLATE, with nothing but blanks or a comment behind it"
 NOT_DECLARED = "declare it with collating-symbol"
+NO_END_OF_SYMBOL = "close the symbol before the next < with >, or declare it with collating-symbol"
+CODE_POINT = "spell a character as U and four to eight digits, or declare the name with collating-symbol"
+TWICE_IN_BLOCK = "drop the line, or move it to another block: the target or a line before has its identifier"
 WEIGHT_NOT_PLACED = "place what the weight names, anywhere in the table or in the same block"
 NO_END = "write END LC_COLLATE; look whether the text was cut"
 TAILORS = "a source that changes a table, as by reorder-after, goes through collbench import-delta TABLE SOURCE"
+ORDERS = "a source with an order of its own, from order_start, goes through collbench import SOURCE"
 NO_COMMENT = "% begins no comment here; behind a line comment_char % it does"
 READ_FAULT = "look at the file's name, its rights, and the device"
 WRITE_FAULT = "look at the device, and run it again: what was written is a prefix"
@@ -128,7 +132,14 @@ RUNS = [
     of_delta("a weight of a line of a block", block("<U0062> <U0062>;<U0078>"), "2: 38 WeightNotPlaced",
              "  3 | <U0062> <U0062>;<U0078>", "    |                 ^^^^^^^", WEIGHT_NOT_PLACED),
     of_delta("a line that stands in its block twice", block("<U0063>", "<U0064>", "<U0063>"), "2: 51 TwiceInBlock",
-             "  5 | <U0063>", "    | ^^^^^^^", "drop one of the two lines, or move it to another block"),
+             "  5 | <U0063>", "    | ^^^^^^^", TWICE_IN_BLOCK),
+    of_delta("a line with the target of its block", block("<U0061>"), "2: 51 TwiceInBlock", "  3 | <U0061>", "    | ^^^^^^^", TWICE_IN_BLOCK),
+    of_delta("a symbol without an end before another one", block("<U0063> <BAS;<BASE>"), "2: 34 NotDeclared",
+             "  3 | <U0063> <BAS;<BASE>", "    |         ^^^^^^^^^^^", NO_END_OF_SYMBOL),
+    of_delta("a code point of two digits", block("<U63>"), "2: 34 NotDeclared", "  3 | <U63>", "    | ^^^^^", CODE_POINT),
+    of_delta("a code point behind a plus sign", block("<U+0063>"), "2: 34 NotDeclared", "  3 | <U+0063>", "    | ^^^^^^^^", CODE_POINT),
+    of_delta("a code point of nine digits", block("<U000000063>"), "2: 34 NotDeclared", "  3 | <U000000063>", "    | ^^^^^^^^^^^^", CODE_POINT),
+    of_delta("a name that begins as a code point", block("<U6x>"), "2: 34 NotDeclared", "  3 | <U6x>", "    | ^^^^^", NOT_DECLARED),
     of_delta("the target of a block", delta("reorder-after <U0078>", "reorder-end"), "2: 50 TargetNotPlaced",
              "  2 | reorder-after <U0078>", "    |               ^^^^^^^", "place the target first, or name one that is placed"),
     of_delta("a target that is near", delta("reorder-after <BASF>", "reorder-end"), "2: 50 TargetNotPlaced",
@@ -189,6 +200,8 @@ RUNS = [
      "in/letters": table("a", "<BASE b")}, "fault": "in/letters:4: 2 OpenSymbol", "below": ["  4 | <BASE b", "    | ^^^^^^^", OPEN_SYMBOL]},
     {"shows": "a source that changes a table", "words": ["import", "s.txt"], "files": {"s.txt": block("<U0062>")}, "fault": "s.txt:2: 20 UnknownStatement",
      "below": ["  2 | reorder-after <U0061>", "    | ^^^^^^^^^^^^^", TAILORS]},
+    {"shows": "a source with an order of its own", "words": ["import-delta", "base.txt", "s.txt"], "files": {"s.txt": table("b")},
+     "fault": "s.txt:2: 20 UnknownStatement", "below": ["  2 | order_start forward", "    | ^^^^^^^^^^^", ORDERS]},
     {"shows": "a source that copies itself", "words": ["import", "s.txt"], "files": {"s.txt": 'LC_COLLATE\n copy "s.txt"\nEND LC_COLLATE\n'},
      "fault": "s.txt:2: 80 CopyOfItself", "below": ['  2 |  copy "s.txt"', "    |  ^^^^^^^^^^^^", "take one of the copies away"]},
     {"shows": "a source that isn't there", "words": ["import", "none.txt"], "fault": "none.txt:0: 67 ReadFault",

@@ -1,13 +1,13 @@
 //! What is written of a fault behind its number and name.
 //!
 //! The identifier that it is about, what to do, and a name that is near: ` <d-z>: declare it with collating-symbol; is <dz> meant?`
-//! (`specs/AdviceLines.antt`). The sentence is a row of `sentences`.
+//! (`specs/AdviceLines.antt`). The sentence is that of `spelled_names`.
 
 ghost use Rattle.std.specs.Prelude.{option_copied, option_map, chars};
 ghost use Rattle.coll_devices.specs.Devices.{CountsErr, Writes};
 ghost use Rattle.coll_advice.specs.AdviceLines.{SendsAdvice, advice_line, near_bytes, sentence_bytes, subject_bytes};
 
-use crate::sentences::advice_of;
+use crate::spelled_names::sentence_for;
 use coll_devices::{Sink, WriteStop};
 use coll_syntax::Id;
 use coll_texts::{Piece, write_pieces};
@@ -24,10 +24,8 @@ pub fn write_advice<W: Sink>(
         (option_map (λ name. chars name.now) near.entry) result }
     ensures errors { CountsErr (W.failed out.old) (W.failed out.new) result }
 {
-    match advice_of(number) {
-        Some(told) => write_told(out, Some(told.sentence), id, near),
-        None => write_told(out, None, id, near),
-    }
+    let sentence = sentence_for(number, id);
+    write_told(out, sentence, id, near)
 }
 
 // Writes what stands behind the number and name of a fault with this sentence, if there is one.

@@ -8,7 +8,8 @@
 //! - `identifiers`: identifiers by their own names, and whether they are known and placed;
 //! - `lines`: what is wrong with an order line (`LineFaults`);
 //! - `blocks` and `statements`: all faults of a statement, and the first with a refusal (`Faults`);
-//! - `sentences`: the name and the sentence of each number (`FaultNumbers`);
+//! - `sentences` and `spelled_names`: the name and the sentence of each number (`FaultNumbers`), and of what isn't declared what its
+//!   spelling shows;
 //! - `near_names`, `near_sections`, `edits` and `texts`: the declared name, and the name of a section, that is nearest to another
 //!   (`NearNames`);
 //! - `advice_lines`: what is written of a fault behind its number and name (`AdviceLines`).
@@ -23,6 +24,7 @@ mod lines;
 mod near_names;
 mod near_sections;
 mod sentences;
+mod spelled_names;
 mod statements;
 mod texts;
 
@@ -32,4 +34,5 @@ pub use identifiers::{copied_own_id, is_placed};
 pub use near_names::{is_near, nearest_name};
 pub use near_sections::nearest_section;
 pub use sentences::{Advice, advice_of};
+pub use spelled_names::sentence_for;
 pub use statements::{faults_of, subject_of};

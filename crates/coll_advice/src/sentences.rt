@@ -197,7 +197,7 @@ fn statement_advice(number: u8) -> Option<Advice>
         ),
         51 => row(
             "TwiceInBlock",
-            "drop one of the two lines, or move it to another block",
+            "drop the line, or move it to another block: the target or a line before has its identifier",
         ),
         52 => row(
             "NoSuchSection",

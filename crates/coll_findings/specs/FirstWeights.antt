@@ -82,12 +82,17 @@ is_apart entries (Some entry) (Some before) =
 abbrev pub sorts_elsewhere : List Entry → Id → Bool
 sorts_elsewhere entries id = is_apart entries (entry_at entries id) (lead_of entries id)
 
--- an entry, if there is one, weighs as one that weighs as another itself
-abbrev pub weighs_beyond : List Entry → Option Entry → Bool
-weighs_beyond entries None = false
-weighs_beyond entries (Some entry) = is_some (first_weight (entry_at entries (weighs_as entry)))
+-- what weighs as this, or else as itself, seems to sort where it stands: this weighs as another itself
+abbrev pub seems_by : List Entry → (weight : Option Id) → Bool
+seems_by entries None = true
+seems_by entries (Some id) = is_some (first_weight (entry_at entries id))
 
--- a line whose entry doesn't sort where it stands, and seems to: it gives no weights, or weighs as what itself weighs as another
+-- an entry, if there is one, seems to sort where it stands: it weighs as itself, or as what weighs as another itself
+abbrev pub seems_to_sort : List Entry → Option Entry → Bool
+seems_to_sort entries None = false
+seems_to_sort entries (Some entry) = seems_by entries (first_weight (Some entry))
+
+-- a line whose entry doesn't sort where it stands, and seems to, since it gives no weights or by those that it gives
 abbrev pub is_misplaced : List Entry → OrderLine → Bool
 is_misplaced entries line =
-    (not (is_some line.weights) || weighs_beyond entries (entry_at entries line.id)) && sorts_elsewhere entries line.id
+    (not (is_some line.weights) || seems_to_sort entries (entry_at entries line.id)) && sorts_elsewhere entries line.id

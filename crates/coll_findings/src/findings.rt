@@ -4,7 +4,7 @@ ghost use Rattle.std.specs.Prelude.{◌≡◌};
 ghost use Rattle.coll_findings.specs.ToldFaults.{are_same, is_told_by_id, same_subject};
 
 use crate::foreign_words::ForeignWord;
-use coll_advice::advice_of;
+use coll_advice::sentence_for;
 use coll_faults::RunFault;
 use coll_lex::TextBuf;
 use coll_syntax::Id;
@@ -59,16 +59,17 @@ pub struct FoundFault {
 }
 
 impl FoundFault {
-    /// A fault at a line of its own, with what to do by its number.
+    /// A fault at a line of its own, with what to do by its number and by what it is about.
     pub fn new(fault: RunFault, line: u32, about: About) -> FoundFault
         ensures fault { result.fault ≡ fault }
         ensures line { result.line ≡ line }
         ensures about { result.about ≡ about }
     {
-        let sentence = match advice_of(fault.fault.number()) {
-            Some(told) => told.sentence,
-            None => "",
+        let id = match &about {
+            About::Id { id, .. } => Some(id),
+            About::Nothing | About::Word(_) => None,
         };
+        let sentence = sentence_for(fault.fault.number(), id).unwrap_or("");
         FoundFault {
             fault,
             line,

@@ -8,7 +8,7 @@ ghost use Rattle.std.specs.Prelude.{◌≡◌, Some, option_copied};
 ghost use Rattle.coll_nodes.specs.Placement.{entry_at};
 ghost use Rattle.coll_nodes.specs.Table.{entries_of};
 ghost use Rattle.coll_nodes.specs.TableLayout.{collation};
-ghost use Rattle.coll_findings.specs.FirstWeights.{comes_behind, first_weight, is_misplaced, lead_of, past, past_four, sorts_elsewhere, weighs_as, weighs_beyond, weighs_so};
+ghost use Rattle.coll_findings.specs.FirstWeights.{comes_behind, first_weight, is_misplaced, lead_of, past, past_four, seems_to_sort, sorts_elsewhere, weighs_as, weighs_so};
 
 use coll_syntax::{Id, OrderLine, Weight};
 use coll_table::{Entry, Table};
@@ -65,26 +65,29 @@ fn past<'a>(table: &'a Table, weight: &Id, entry: Option<&'a Entry>) -> Option<&
 }
 
 /// Whether a line of a block, over the table that it was put to, has its entry stand where it seems to sort and doesn't: it gives no
-/// weights, or weighs as what itself weighs as another, and doesn't sort behind what stands before it (`lead_of`).
+/// weights, or weighs as itself or as what itself weighs as another, and doesn't sort behind what stands before it (`lead_of`).
 pub fn is_misplaced(table: &Table, line: &OrderLine) -> bool
     ensures { result ≡ is_misplaced (entries_of (collation table.now)) line.now }
 {
-    if line.weights.is_some() && !weighs_beyond(table, &line.id) {
+    if line.weights.is_some() && !seems_to_sort(table, &line.id) {
         return false;
     }
     sorts_elsewhere(table, &line.id)
 }
 
-// Whether the entry of an identifier weighs as one that weighs as another itself.
-fn weighs_beyond(table: &Table, id: &Id) -> bool
-    ensures { result ≡ weighs_beyond (entries_of (collation table.now)) (entry_at (entries_of (collation table.now)) id.now) }
+// Whether the entry of an identifier seems to sort where it stands: it weighs as itself, or as what weighs as another itself.
+fn seems_to_sort(table: &Table, id: &Id) -> bool
+    ensures { result ≡ seems_to_sort (entries_of (collation table.now)) (entry_at (entries_of (collation table.now)) id.now) }
 {
-    match table.entry(id) {
-        Some(entry) => match first_weight(table, weighs_as(entry)) {
+    let Some(entry) = table.entry(id) else {
+        return false;
+    };
+    match first_named(entry) {
+        Some(weight) => match first_weight(table, weight) {
             Some(_) => true,
             None => false,
         },
-        None => false,
+        None => true,
     }
 }
 

@@ -5,7 +5,7 @@
 //! the exit status stay what they are without a terminal.
 //!
 //! Of what a survey doesn't look for more is told here, as an edit tells it: a target or a section that is near, `%` where it begins no
-//! comment; and of a source that changes a table, which subcommand takes it.
+//! comment; and of a source that one import refuses, which other one takes it.
 
 use crate::random_keys::random_keys;
 use crate::reasons::told_reason;
@@ -44,8 +44,15 @@ const UNKNOWN_STATEMENT: u8 = 20;
 const TAILORS: &str =
     "a source that changes a table, as by reorder-after, goes through collbench import-delta TABLE SOURCE";
 
+// What a source is to be made into that has an order.
+const ORDERS: &str =
+    "a source with an order of its own, from order_start, goes through collbench import SOURCE";
+
 // What begins the lines by which a source changes a table.
 const REORDER: &[u8] = b"reorder-";
+
+// What begins the line by which a source begins an order.
+const ORDER_START: &[u8] = b"order_start";
 
 // What a line says that was meant as a comment, as in an edit.
 const NO_COMMENT: &str = "% begins no comment here; behind a line comment_char % it does";
@@ -284,22 +291,29 @@ fn refused_in_source(rt: &HostRuntime, number: u8, line: u32, name: &str) -> Opt
     }
     let text = kept_file(rt, name)?;
     let refused = refused_at(rt.alloc(), number, line, text.as_slice());
-    let tailors = number == UNKNOWN_STATEMENT && changes_table(text.as_slice(), line);
+    let import = match number {
+        UNKNOWN_STATEMENT => other_import(text.as_slice(), line),
+        _ => None,
+    };
     drop(text);
     let mut refused = refused.ok()?;
-    if tailors {
-        refused.sentence = TAILORS;
+    if let Some(sentence) = import {
+        refused.sentence = sentence;
     }
     Some(refused)
 }
 
-// Whether the line of a text with this number changes a table, as lines of a tailoring do.
-fn changes_table(text: &[u8], number: u32) -> bool {
+// Which import takes a source of which another one refuses the line with this number: a line of a tailoring, or of an order.
+fn other_import(text: &[u8], number: u32) -> Option<&'static str> {
     let mut lines = text.split(is_line_feed);
-    match lines.nth((number as usize).saturating_sub(1)) {
-        Some(line) => past_blanks(line).starts_with(REORDER),
-        None => false,
+    let line = past_blanks(lines.nth((number as usize).saturating_sub(1))?);
+    if line.starts_with(REORDER) {
+        return Some(TAILORS);
     }
+    if line.starts_with(ORDER_START) {
+        return Some(ORDERS);
+    }
+    None
 }
 
 // The table in the first of the files with these names, rewritten by those before a delta file.
