@@ -56,6 +56,8 @@ C_BACK = "note: taken back: reorder-after <U0061> .. (1 line)"
 C_AGAIN = "note: put again: reorder-after <U0061> .. (1 line)"
 X_BACK = "note: taken back: collating-symbol <X>"
 ONE_UNWRITTEN = "note: 1 statement stands in no file (:write FILE); another :quit drops it"
+FILE_HAD_MORE = "note: the file that was read or written last has statements that were taken back"
+FILE_HAS_MORE = f"{FILE_HAD_MORE} (:write FILE); another :quit leaves it so"
 SOME_UNWRITTEN = "note: 2 statements stand in no file (:write FILE); another :quit drops them"
 NO_END = "note: the block before has no reorder-end: it ended where this one begins"
 # Each session: the words behind the program, the steps, what stands on the screen at the end, and the files that are there then.
@@ -137,6 +139,30 @@ SESSIONS = [
         ],
         ":quit\n",
         "",
+        {},
+    ),
+    # What a file has beyond what remains.
+    (
+        ["edit", "base.txt", "c_behind_a.txt"],
+        [
+            (":undo", f"undone 0\n{C_BACK}\n> "),
+            (":quit", f"{FILE_HAS_MORE}\n> "),
+            (":redo", f"redone 1\n{C_AGAIN}\n> "),
+            ("collating-symbol <X>", "ok 2\n> "),
+            (":write new.txt", "written 2\n> "),
+            (":withdraw 1", f"withdrawn 1\n{C_BACK}\n> "),
+            (":quit", f"{FILE_HAS_MORE}\n> "),
+            (":write other.txt", "written 1\n> "),
+        ],
+        ":quit\n",
+        "",
+        {},
+    ),
+    (
+        ["edit", "base.txt", "c_behind_a.txt"],
+        [(":withdraw 1", f"withdrawn 0\n{C_BACK}\n> ")],
+        END,
+        f"\n{FILE_HAD_MORE}\n",
         {},
     ),
     # Statements of delta files stand there, and one that was written stands in its file when it is put again.

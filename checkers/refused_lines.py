@@ -35,6 +35,7 @@ WEIGHT_NOT_PLACED = "place what the weight names, anywhere in the table or in th
 NO_END = "write END LC_COLLATE; look whether the text was cut"
 TAILORS = "a source that changes a table, as by reorder-after, goes through collbench import-delta TABLE SOURCE"
 ORDERS = "a source with an order of its own, from order_start, goes through collbench import SOURCE"
+NO_LONGER = "# begins no comment here, since a line comment_char chose another character"
 NO_COMMENT = "% begins no comment here; behind a line comment_char % it does"
 READ_FAULT = "look at the file's name, its rights, and the device"
 WRITE_FAULT = "look at the device, and run it again: what was written is a prefix"
@@ -136,6 +137,8 @@ RUNS = [
     of_delta("a line with the target of its block", block("<U0061>"), "2: 51 TwiceInBlock", "  3 | <U0061>", "    | ^^^^^^^", TWICE_IN_BLOCK),
     of_delta("a symbol without an end before another one", block("<U0063> <BAS;<BASE>"), "2: 34 NotDeclared",
              "  3 | <U0063> <BAS;<BASE>", "    |         ^^^^^^^^^^^", NO_END_OF_SYMBOL),
+    of_delta("a target of two digits", delta("reorder-after <U63>", "reorder-end"), "2: 50 TargetNotPlaced",
+             "  2 | reorder-after <U63>", "    |               ^^^^^", "spell a character as U and four to eight digits, or name a target that is placed"),
     of_delta("a code point of two digits", block("<U63>"), "2: 34 NotDeclared", "  3 | <U63>", "    | ^^^^^", CODE_POINT),
     of_delta("a code point behind a plus sign", block("<U+0063>"), "2: 34 NotDeclared", "  3 | <U+0063>", "    | ^^^^^^^^", CODE_POINT),
     of_delta("a code point of nine digits", block("<U000000063>"), "2: 34 NotDeclared", "  3 | <U000000063>", "    | ^^^^^^^^^^^^", CODE_POINT),
@@ -150,9 +153,15 @@ RUNS = [
     of_delta("a keyword of another dialect in a delta file", delta("", "reset <U0061>"), "3: 20 UnknownStatement",
              "  3 | reset <U0061>", "    | ^^^^^", "reorder-after is meant?"),
     of_delta("a comment of many sources", delta("", "% A behind c"), "3: 29 BadOperand", "  3 | % A behind c", "    | ^^^^^^^^^^^^", NO_COMMENT),
+    of_delta("a comment behind a line that chose another character", f'comment_char %\n{delta("", "# A behind c")}', "4: 29 BadOperand",
+             "  4 | # A behind c", "    | ^^^^^^^^^^^^", NO_LONGER),
+    of_delta("the same behind a line that chose this one", f'comment_char #\n{delta("", "% A behind c")}', "4: 29 BadOperand",
+             "  4 | % A behind c", "    | ^^^^^^^^^^^^", NO_COMMENT),
     of_delta("the same behind a line", delta("reorder-after a % b"), "2: 22 ExtraOperand", "  2 | reorder-after a % b", "    | ^^^^^^^^^^^^^^^^^^^", NO_COMMENT),
-    of_delta("what is no comment where another character was chosen", "comment_char /\nLC_COLLATE\nreorder-after a % b\nEND LC_COLLATE\n", "3: 22 ExtraOperand",
-             "  3 | reorder-after a % b", "    | ^^^^^^^^^^^^^^^^^^^", EXTRA),
+    of_delta("the same where a third character was chosen, as in an edit", "comment_char /\nLC_COLLATE\nreorder-after a % b\nEND LC_COLLATE\n",
+             "3: 22 ExtraOperand", "  3 | reorder-after a % b", "    | ^^^^^^^^^^^^^^^^^^^", NO_COMMENT),
+    of_delta("a line with the character that was chosen", "comment_char %\nLC_COLLATE\nreorder-after a b % c\nEND LC_COLLATE\n",
+             "3: 22 ExtraOperand", "  3 | reorder-after a b % c", "    | ^^^^^^^^^^^^^^^^^^^^^", EXTRA),
     of_delta("a line that may not stand in a block", block("<U0062>", "collating-symbol <X>"), "4: 62 BlockOpen",
              "  4 | collating-symbol <X>", "    | ^^^^^^^^^^^^^^^^^^^^", "end the block by reorder-end; put the line before it or behind"),
     of_delta("an end of no block", delta("reorder-end"), "2: 69 NoBlock", "  2 | reorder-end", "    | ^^^^^^^^^^^", "write reorder-after, or drop the line"),

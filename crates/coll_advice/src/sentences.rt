@@ -162,7 +162,7 @@ fn table_advice(number: u8) -> Option<Advice>
         ),
         37 => row(
             "TooManyWeights",
-            "drop what goes beyond the levels, or give the table's order_start more of them",
+            "drop what goes beyond the levels of the table, which are four at most",
         ),
         38 => row(
             "WeightNotPlaced",

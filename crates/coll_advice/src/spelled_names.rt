@@ -13,6 +13,9 @@ use coll_syntax::Id;
 // The number of what isn't declared.
 const NOT_DECLARED: u8 = 34;
 
+// The number of a target that has no entry, declared or not.
+const TARGET_NOT_PLACED: u8 = 50;
+
 // What to do about a symbol that goes on to the end of another one.
 const NO_END: &str =
     "close the symbol before the next < with >, or declare it with collating-symbol";
@@ -21,8 +24,12 @@ const NO_END: &str =
 const CODE_POINT: &str =
     "spell a character as U and four to eight digits, or declare the name with collating-symbol";
 
+// The same of a target.
+const TARGET: &str =
+    "spell a character as U and four to eight digits, or name a target that is placed";
+
 /// What to do about a fault with a number, which is about this identifier, if it is about one; nothing where no fault has the number.
-/// That is the sentence of the number but for a name that isn't declared, of which the spelling may show what was meant.
+/// That is the sentence of the number but for a name that isn't declared, or has no entry, of which the spelling may show what was meant.
 pub fn sentence_for(number: u8, id: Option<&Id>) -> Option<&'static str>
     ensures { is_some result ≡ is_fault_number number }
 {
@@ -36,6 +43,7 @@ pub fn sentence_for(number: u8, id: Option<&Id>) -> Option<&'static str>
 fn by_identifier(number: u8, id: Option<&Id>, sentence: &'static str) -> &'static str {
     match id {
         Some(Id::Named(name)) if number == NOT_DECLARED => by_spelling(name.get(), sentence),
+        Some(Id::Named(name)) if number == TARGET_NOT_PLACED && is_code_point(name.get()) => TARGET,
         _ => sentence,
     }
 }

@@ -526,9 +526,9 @@ impl Editor {
         output.forget();
         let ended = self.run.finish(output);
         self.tell_told(output, messages, Origin::Here);
-        let missing = self.unwritten();
-        if prompts && missing > 0 {
-            tell_unwritten(messages, missing, true);
+        let unwritten = self.unwritten();
+        if prompts {
+            tell_unwritten(messages, unwritten, true);
         }
         ended
     }

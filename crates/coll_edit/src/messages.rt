@@ -39,14 +39,39 @@ pub(crate) fn tell_words<M: Sink>(messages: &mut M, words: &[u8]) {
     let _ = messages.flush();
 }
 
-/// Tells that so many statements that remain stand in no file, and what may be done while the edit goes on.
-pub(crate) fn tell_unwritten<M: Sink>(messages: &mut M, count: u32, ended: bool) {
-    let said: &[u8] = match (count, ended) {
-        (1, false) => ONE_UNWRITTEN,
-        (_, false) => SOME_UNWRITTEN,
-        (1, true) => ONE_LOST,
-        (_, true) => SOME_LOST,
-    };
+/// What of the statements that remain stands in no file.
+#[derive(Clone, Copy)]
+pub(crate) enum Unwritten {
+    /// They are those that were read or written last.
+    Nothing,
+    /// Each of them stands in a file, and there are others in what was read or written last.
+    TakenBack,
+    /// So many of them stand in no file.
+    Statements(u32),
+}
+
+impl Unwritten {
+    /// Whether nothing of them has to be written.
+    pub fn is_nothing(self) -> bool {
+        matches!(self, Unwritten::Nothing)
+    }
+}
+
+/// Tells what of the statements that remain stands in no file, and what may be done while the edit goes on.
+pub(crate) fn tell_unwritten<M: Sink>(messages: &mut M, unwritten: Unwritten, ended: bool) {
+    match (unwritten, ended) {
+        (Unwritten::Nothing, _) => return,
+        (Unwritten::TakenBack, false) => tell_words(messages, FILE_HAS_MORE),
+        (Unwritten::TakenBack, true) => tell_words(messages, FILE_HAD_MORE),
+        (Unwritten::Statements(1), false) => tell_counted(messages, 1, ONE_UNWRITTEN),
+        (Unwritten::Statements(1), true) => tell_counted(messages, 1, ONE_LOST),
+        (Unwritten::Statements(count), false) => tell_counted(messages, count, SOME_UNWRITTEN),
+        (Unwritten::Statements(count), true) => tell_counted(messages, count, SOME_LOST),
+    }
+}
+
+// Tells these words of so many statements.
+fn tell_counted<M: Sink>(messages: &mut M, count: u32, said: &[u8]) {
     let _ = write_pieces(
         messages,
         &[
@@ -57,6 +82,12 @@ pub(crate) fn tell_unwritten<M: Sink>(messages: &mut M, count: u32, ended: bool)
     );
     let _ = messages.flush();
 }
+
+const FILE_HAS_MORE: &[u8] =
+    b"note: the file that was read or written last has statements that were taken back (:write FILE); another :quit leaves it so\n";
+
+const FILE_HAD_MORE: &[u8] =
+    b"note: the file that was read or written last has statements that were taken back\n";
 
 const ONE_UNWRITTEN: &[u8] =
     b" statement stands in no file (:write FILE); another :quit drops it\n";

@@ -82,17 +82,34 @@ is_apart entries (Some entry) (Some before) =
 abbrev pub sorts_elsewhere : List Entry → Id → Bool
 sorts_elsewhere entries id = is_apart entries (entry_at entries id) (lead_of entries id)
 
--- what weighs as this, or else as itself, seems to sort where it stands: this weighs as another itself
-abbrev pub seems_by : List Entry → (weight : Option Id) → Bool
-seems_by entries None = true
-seems_by entries (Some id) = is_some (first_weight (entry_at entries id))
+-- there are no weights
+abbrev pub none_given : List Weight → Bool
+none_given [] = true
+none_given (weight ∷ later) = false
 
--- an entry, if there is one, seems to sort where it stands: it weighs as itself, or as what weighs as another itself
-abbrev pub seems_to_sort : List Entry → Option Entry → Bool
-seems_to_sort entries None = false
-seems_to_sort entries (Some entry) = seems_by entries (first_weight (Some entry))
+-- there is an entry, and it has no weights, as that of a collating symbol
+abbrev pub is_bare : Option Entry → Bool
+is_bare None = false
+is_bare (Some entry) = none_given entry.weights
+
+-- there is such a weight, and its entry has none itself
+abbrev pub is_symbol_there : List Entry → (weight : Option Id) → Bool
+is_symbol_there entries None = false
+is_symbol_there entries (Some id) = is_bare (entry_at entries id)
+
+-- what weighs as this, or else as itself, seems to sort behind another entry: this weighs as another itself, or else that entry weighs
+-- as a symbol
+abbrev pub seems_by : List Entry → (weight : Option Id) → (before : Option Entry) → Bool
+seems_by entries None before = is_symbol_there entries (first_weight before)
+seems_by entries (Some id) before = is_some (first_weight (entry_at entries id))
+
+-- an entry, if there is one, seems to sort behind another one
+abbrev pub seems_to_sort : List Entry → (entry before : Option Entry) → Bool
+seems_to_sort entries None before = false
+seems_to_sort entries (Some entry) before = seems_by entries (first_weight (Some entry)) before
 
 -- a line whose entry doesn't sort where it stands, and seems to, since it gives no weights or by those that it gives
 abbrev pub is_misplaced : List Entry → OrderLine → Bool
 is_misplaced entries line =
-    (not (is_some line.weights) || seems_to_sort entries (entry_at entries line.id)) && sorts_elsewhere entries line.id
+    (not (is_some line.weights) || seems_to_sort entries (entry_at entries line.id) (lead_of entries line.id))
+    && sorts_elsewhere entries line.id

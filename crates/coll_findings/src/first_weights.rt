@@ -8,7 +8,7 @@ ghost use Rattle.std.specs.Prelude.{◌≡◌, Some, option_copied};
 ghost use Rattle.coll_nodes.specs.Placement.{entry_at};
 ghost use Rattle.coll_nodes.specs.Table.{entries_of};
 ghost use Rattle.coll_nodes.specs.TableLayout.{collation};
-ghost use Rattle.coll_findings.specs.FirstWeights.{comes_behind, first_weight, is_misplaced, lead_of, past, past_four, seems_to_sort, sorts_elsewhere, weighs_as, weighs_so};
+ghost use Rattle.coll_findings.specs.FirstWeights.{comes_behind, first_weight, is_misplaced, is_symbol_there, lead_of, none_given, past, past_four, seems_to_sort, sorts_elsewhere, weighs_as, weighs_so};
 
 use coll_syntax::{Id, OrderLine, Weight};
 use coll_table::{Entry, Table};
@@ -65,7 +65,8 @@ fn past<'a>(table: &'a Table, weight: &Id, entry: Option<&'a Entry>) -> Option<&
 }
 
 /// Whether a line of a block, over the table that it was put to, has its entry stand where it seems to sort and doesn't: it gives no
-/// weights, or weighs as itself or as what itself weighs as another, and doesn't sort behind what stands before it (`lead_of`).
+/// weights, or weighs as what itself weighs as another, or as itself behind what weighs as a symbol; and it doesn't sort behind what stands
+/// before it (`lead_of`).
 pub fn is_misplaced(table: &Table, line: &OrderLine) -> bool
     ensures { result ≡ is_misplaced (entries_of (collation table.now)) line.now }
 {
@@ -75,9 +76,11 @@ pub fn is_misplaced(table: &Table, line: &OrderLine) -> bool
     sorts_elsewhere(table, &line.id)
 }
 
-// Whether the entry of an identifier seems to sort where it stands: it weighs as itself, or as what weighs as another itself.
+// Whether the entry of an identifier seems to sort where it stands: it weighs as what weighs as another itself, or as itself behind one
+// that weighs as a symbol.
 fn seems_to_sort(table: &Table, id: &Id) -> bool
-    ensures { result ≡ seems_to_sort (entries_of (collation table.now)) (entry_at (entries_of (collation table.now)) id.now) }
+    ensures { result ≡ seems_to_sort (entries_of (collation table.now)) (entry_at (entries_of (collation table.now)) id.now)
+        (lead_of (entries_of (collation table.now)) id.now) }
 {
     let Some(entry) = table.entry(id) else {
         return false;
@@ -87,7 +90,33 @@ fn seems_to_sort(table: &Table, id: &Id) -> bool
             Some(_) => true,
             None => false,
         },
-        None => true,
+        None => weighs_as_symbol(table, lead_of(table, id)),
+    }
+}
+
+// Whether an entry, if there is one, weighs as a symbol at the first level: as another that has an entry without weights.
+fn weighs_as_symbol(table: &Table, entry: Option<&Entry>) -> bool
+    ensures { result ≡ is_symbol_there (entries_of (collation table.now)) (first_weight (option_copied entry.entry)) }
+{
+    let Some(entry) = entry else {
+        return false;
+    };
+    let Some(weight) = first_named(entry) else {
+        return false;
+    };
+    match table.entry(weight) {
+        Some(symbol) => has_no_weights(symbol),
+        None => false,
+    }
+}
+
+// Whether an entry has no weights, as that of a collating symbol.
+fn has_no_weights(entry: &Entry) -> bool
+    ensures { result ≡ none_given entry.now.weights }
+{
+    match entry.weights() {
+        [] => true,
+        _ => false,
     }
 }
 

@@ -16,7 +16,7 @@ use Rattle.coll_findings.specs.declared.warnings.Warnings.{Warnings}
 -- what a warning says that is the only one of its kind, behind the name that it is about, if it is about one
 abbrev pub alone_told : Warning → List ℕ
 alone_told warning.CopyWithoutEffect =
-    codes "copy has no effect in a delta file: make one of its source by collbench import-delta\n"
+    codes "copy has no effect in a delta file: make one of its source by collbench import-delta, if this isn't one\n"
 alone_told warning.ScriptWithoutEffect = codes "script has no effect: leave it out\n"
 alone_told warning.SymbolNeverPlaced = codes " is declared and never placed: place it, or drop its declaration\n"
 alone_told warning.ElementNeverPlaced = codes " is declared and never placed: place it, or drop its declaration\n"

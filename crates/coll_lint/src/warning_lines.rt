@@ -263,7 +263,7 @@ fn alone(warning: Warning) -> &'static [u8]
 {
     match warning {
         Warning::CopyWithoutEffect => {
-            b"copy has no effect in a delta file: make one of its source by collbench import-delta\n"
+            b"copy has no effect in a delta file: make one of its source by collbench import-delta, if this isn't one\n"
         }
         Warning::ScriptWithoutEffect => b"script has no effect: leave it out\n",
         Warning::SymbolNeverPlaced | Warning::ElementNeverPlaced => {

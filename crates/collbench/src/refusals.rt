@@ -57,6 +57,10 @@ const ORDER_START: &[u8] = b"order_start";
 // What a line says that was meant as a comment, as in an edit.
 const NO_COMMENT: &str = "% begins no comment here; behind a line comment_char % it does";
 
+// What a line says of the character that begins comments where no line chooses another.
+const NO_LONGER: &str =
+    "# begins no comment here, since a line comment_char chose another character";
+
 // What begins a line that chooses the character of comments.
 const COMMENT_CHAR: &[u8] = b"comment_char";
 
@@ -205,8 +209,8 @@ fn refused_in_text(
         Surveyed::Nothing => refused_at(rt.alloc(), fault.fault.number(), fault.line, text),
     };
     let mut refused = refused.ok()?;
-    if is_comment(text, fault.line, fault.fault.number()) {
-        refused.sentence = NO_COMMENT;
+    if let Some(sentence) = comment_sentence(text, fault.line, fault.fault.number()) {
+        refused.sentence = sentence;
     }
     if matches!(fault.fault.number(), TARGET_NOT_PLACED | NO_SUCH_SECTION) {
         if let Some(table) = table_before(rt, keys, fault.input, names) {
@@ -235,28 +239,47 @@ fn seek_near(alloc: Global, table: &Table, number: u8, about: &mut About) {
     }
 }
 
-// Whether the line of a text with this number is refused for what may be meant as a comment, as an edit tells it: a word that begins
-// with `%`, where no line before chooses the character that begins one.
-fn is_comment(text: &[u8], number: u32, fault: u8) -> bool {
+// What to do about the line of a text with this number that is refused for what may be meant as a comment: a word that begins with `%`, as an
+// edit tells it, or with `#`, where a line before chooses another character for comments.
+fn comment_sentence(text: &[u8], number: u32, fault: u8) -> Option<&'static str> {
     if !matches!(fault, 20 | 22 | 29 | 54 | 55) {
-        return false;
+        return None;
     }
+    let mut begins: &[u8] = b"#";
     let mut lines = text.split(is_line_feed);
     for _ in 1..number {
-        match lines.next() {
-            Some(line) if past_blanks(line).starts_with(COMMENT_CHAR) => return false,
-            _ => {}
+        if let Some(chosen) = lines.next().and_then(chosen_for_comments) {
+            begins = chosen;
         }
     }
-    match lines.next() {
-        Some(line) => line.split(is_blank).any(begins_comment),
-        None => false,
+    let line = lines.next()?;
+    if !begins.starts_with(b"%") && line.split(is_blank).any(begins_with_percent) {
+        return Some(NO_COMMENT);
     }
+    if !begins.starts_with(b"#") && line.split(is_blank).any(begins_with_hash) {
+        return Some(NO_LONGER);
+    }
+    None
+}
+
+// What begins with the character that a line chooses for comments, if it chooses one.
+fn chosen_for_comments(line: &[u8]) -> Option<&[u8]> {
+    let line = past_blanks(line);
+    if !line.starts_with(COMMENT_CHAR) {
+        return None;
+    }
+    let chosen = line.get(COMMENT_CHAR.len()..)?;
+    Some(past_blanks(chosen))
 }
 
 // Whether a word begins as a comment does in many sources.
-fn begins_comment(word: &[u8]) -> bool {
+fn begins_with_percent(word: &[u8]) -> bool {
     word.starts_with(b"%")
+}
+
+// Whether a word begins as a comment does where no line chooses its character.
+fn begins_with_hash(word: &[u8]) -> bool {
+    word.starts_with(b"#")
 }
 
 // Whether a byte parts words.

@@ -15,7 +15,7 @@ ghost use Rattle.coll_edit.specs.Watching.{device_of};
 
 use crate::devices::OpensFiles;
 use crate::editors::{Editor, Next};
-use crate::messages::{Origin, tell_unwritten};
+use crate::messages::{Origin, Unwritten, tell_unwritten};
 use crate::own_lines::OwnLine;
 use crate::stored::Stored;
 use crate::watched::Watched;
@@ -30,7 +30,7 @@ use coll_lex::TextBuf;
 use coll_requests::{Command, Request, RequestAt};
 
 impl Editor {
-    /// What comes behind a line of `edit`: the end, behind `:quit`, unless a person is told at first of statements that stand in no file.
+    /// What comes behind a line of `edit`: the end, behind `:quit`, unless a person is told at first of what stands in no file.
     pub(crate) fn next_behind<M: Sink>(
         &mut self,
         own: &OwnLine,
@@ -43,12 +43,12 @@ impl Editor {
         let OwnLine::Quit = own else {
             return Next::Line;
         };
-        let missing = self.unwritten();
-        if !prompts || missing == 0 || self.warned == Some(self.lines.saturating_sub(1)) {
+        let unwritten = self.unwritten();
+        if !prompts || unwritten.is_nothing() || self.warned == Some(self.lines.saturating_sub(1)) {
             return Next::End;
         }
         self.warned = Some(self.lines);
-        tell_unwritten(messages, missing, false);
+        tell_unwritten(messages, unwritten, false);
         Next::Line
     }
 
@@ -207,10 +207,15 @@ impl Editor {
         }
     }
 
-    /// How many of the statements that remain stand in no file.
-    pub(crate) fn unwritten(&self) -> u32 {
+    /// What of the statements that remain stands in no file.
+    pub(crate) fn unwritten(&self) -> Unwritten {
         let remaining = self.run.session().remaining_len();
-        Stored::noted(self.stored, remaining).missing(remaining)
+        let stored = Stored::noted(self.stored, remaining);
+        match stored.missing(remaining) {
+            0 if stored.is_last(remaining) => Unwritten::Nothing,
+            0 => Unwritten::TakenBack,
+            missing => Unwritten::Statements(missing),
+        }
     }
 
     // Answers `:write`: the statements that remain go into a new file.
