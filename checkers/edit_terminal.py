@@ -59,6 +59,7 @@ ONE_UNWRITTEN = "note: 1 statement stands in no file (:write FILE); another :qui
 FILE_HAD_MORE = "note: the file that was read or written last has statements that were taken back"
 FILE_HAS_MORE = f"{FILE_HAD_MORE} (:write FILE); another :quit leaves it so"
 SOME_UNWRITTEN = "note: 2 statements stand in no file (:write FILE); another :quit drops them"
+UNCHANGED = "note: this changes nothing: the table is so already"
 NO_END = "note: the block before has no reorder-end: it ended where this one begins"
 # Each session: the words behind the program, the steps, what stands on the screen at the end, and the files that are there then.
 SESSIONS = [
@@ -74,7 +75,7 @@ SESSIONS = [
             ("<BASF>", "block> "),
             ("reorder-end", "refused 34 NotDeclared\nline 1 of the block: 34 NotDeclared <BASF>: declare it with collating-symbol; is <BASE> meant?\n> "),
             ("reorder-after b", "block> "),
-            ("d d,d", "line 1 of the block: 29 BadOperand: compare with how the line is spelled; weights are parted by ;, and a range (..) has to be written out\nblock> "),
+            ("d d,d", "line 1 of the block: 29 BadOperand: compare with how the line is spelled: quotes stand around strings alone; weights are parted by ;, and a range (..) has to be written out\nblock> "),
             ("reorder-end", "refused 29 BadOperand\n> "),
             ("quit", "refused 20 UnknownStatement\n20 UnknownStatement: is :quit meant?\n> "),
             (":write new.txt", "written 1\n> "),
@@ -94,7 +95,7 @@ SESSIONS = [
             ("reorder-after \\", "> "),
             ("a", "block> "),
             (":quit", f"refused 62 BlockOpen\n62 BlockOpen: {OPEN_BLOCK}\nblock> "),
-            ("reorder-end", "ok 1\n> "),
+            ("reorder-end", f"ok 1\n{UNCHANGED}\n> "),
             (":quit", f"{ONE_UNWRITTEN}\n> "),
         ],
         ":quit\n",

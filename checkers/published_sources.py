@@ -15,7 +15,8 @@ the locale that `localedef` compiles of the same source, and under that which it
 - 3,000 random words of many scripts' characters and, for a tailoring, of those that it names, put into the order of their keys: each
   two neighbours and 20,000 other pairs. Under the first locale those may stand otherwise in which marks stand in a row that combine
   with a letter: glibc compares these from the right, since their section alone has `backward` at the second level. And a pair may
-  stand as `strxfrm` says where that and `strcoll` contradict each other, which glibc's do. How many these are is told;
+  stand as `strxfrm` says where that and `strcoll` contradict each other, which glibc's do. How many these are is told. The pairs of
+  OTHERWISE have to stand otherwise under both;
 - all words of a list of Debian's (WORDS), put into the system's order: each two neighbours. A list that isn't there is told.
 
 The last line is 'N passed, M failed', and the status is 1 where one failed.
@@ -65,6 +66,9 @@ TABLES = {
 SLIPS = {"sv_SE": (94, 1), "se_NO": (141, 1), "ik_CA": (99, 1), "dsb_DE": (116, 4), "dz_BT": (1687, 1)}
 # What a tailoring loses: how many things of each kind.
 LOST = {"dsb_DE": {"SymbolWeights": 4}, "dz_BT": {"SymbolWeights": 1}}
+# Pairs of words that stand otherwise in glibc, which at a `backward` level turns the weights round and not the names in one: by the source;
+# of each the first word is less here, and greater there.
+OTHERWISE = {"fr_CA": [("ế", "ê"), ("cœur", "coéur")]}
 # The categories of a locale beside its order.
 OTHERS = "IDENTIFICATION CTYPE MONETARY NUMERIC TIME MESSAGES PAPER NAME ADDRESS TELEPHONE MEASUREMENT".split()
 # Lists of words, by the source that orders them.
@@ -264,6 +268,10 @@ def compare(program, name, locale, table, pools, room):
         print(f"{name}: of {len(pairs)} pairs {len(with_marks)} have marks in a row, and on {torn} strcoll and strxfrm differ", flush=True)
     refuse_unlike([pair for pair in unlike if pair not in with_marks], len(pairs), "words of its source")
     refuse_unlike(differing(pairs, found, again, room)[0], len(pairs), "words of its exported table")
+    for pair in OTHERWISE.get(name, []):
+        ours = replies(program, table, [':compare "{}" "{}"\n'.format(*pair)])
+        if ours != ["less"] or orders([pair], own, room) != [(1, 1)] or orders([pair], again, room) != [(1, 1)]:
+            raise Unwanted(f"{pair} don't stand otherwise")
     for path in WORDS.get(name, []):
         words = listed(f"/usr/share/{path}")
         if words:

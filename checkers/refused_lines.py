@@ -27,6 +27,7 @@ OPEN_SYMBOL = "close the symbol with >; escape a < that is meant as a character"
 UNKNOWN = "look for a mistyped keyword, a line of deltas in a table (copy, reorder-after), or a command in a delta file"
 EXTRA = "take the rest of the line away; between operands of weights stand semicolons, and no range (..)"
 NO_CATEGORY = "write the line LC_COLLATE, with nothing but blanks or a comment behind it"
+NO_DELTA = "a delta file has a line LC_COLLATE; a list of words is none, and collbench sort reads it from standard input"
 NOT_DECLARED = "declare it with collating-symbol"
 NO_END_OF_SYMBOL = "close the symbol before the next < with >, or declare it with collating-symbol"
 CODE_POINT = "spell a character as U and four to eight digits, or declare the name with collating-symbol"
@@ -150,6 +151,7 @@ RUNS = [
     of_delta("a section that is near", delta("reorder-section-after <PUNKT> <DIGITS>"), "2: 52 NoSuchSection",
              "  2 | reorder-section-after <PUNKT> <DIGITS>", "    |                       ^^^^^^^",
              "look for the names with :list; the first section has none; is <PUNCT> meant?"),
+    of_delta("a list of words where a delta file is wanted", "zebra\napple\n", "2: 30 NoCategory", "  2 | apple", "    | ^^^^^", NO_DELTA),
     of_delta("a keyword of another dialect in a delta file", delta("", "reset <U0061>"), "3: 20 UnknownStatement",
              "  3 | reset <U0061>", "    | ^^^^^", "reorder-after is meant?"),
     of_delta("a comment of many sources", delta("", "% A behind c"), "3: 29 BadOperand", "  3 | % A behind c", "    | ^^^^^^^^^^^^", NO_COMMENT),

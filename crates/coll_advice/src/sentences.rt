@@ -127,7 +127,7 @@ fn grammar_advice(number: u8) -> Option<Advice>
         ),
         29 => row(
             "BadOperand",
-            "compare with how the line is spelled; weights are parted by ;, and a range (..) has to be written out",
+            "compare with how the line is spelled: quotes stand around strings alone; weights are parted by ;, and a range (..) has to be written out",
         ),
         _ => None,
     }

@@ -33,7 +33,7 @@ use crate::changes::{Asked, PUT_AGAIN, TAKEN_BACK, Told, asked_of, tell_statemen
 use crate::copies::copied_statement;
 use crate::devices::OpensFiles;
 use crate::messages::{Hint, Origin, hint_for, tell_refusal, tell_unwritten, tell_words};
-use crate::notes::{UNENDED, tell_notes};
+use crate::notes::{UNCHANGED, UNENDED, tell_notes};
 use crate::own_lines::{OwnLine, own_line};
 use crate::stored::Stored;
 use crate::typed_lines::TypedLines;
@@ -43,6 +43,7 @@ use coll_bench::{
     BenchFault, Fault, RunFault, RunState, TakesStatements, read_delta, write_failed,
 };
 use coll_devices::{ReadStop, Sink, Source, WriteStop};
+use coll_findings::changes_nothing;
 use coll_lex::LexFault;
 use coll_requests::{Request, RequestAt, RequestFault, StatementAt};
 use coll_syntax::{Statement, SyntaxFault};
@@ -91,6 +92,8 @@ struct Remarks {
     found: Option<Vec<Found>>,
     // Whether it is a statement.
     states: bool,
+    // Whether it is one that leaves the table as it is.
+    is_idle: bool,
     // The line of a request that is refused by itself.
     line: Option<u32>,
 }
@@ -398,6 +401,7 @@ impl Editor {
                 Remarks {
                     found: faults_of(self.alloc, table, statement).ok(),
                     states: true,
+                    is_idle: changes_nothing(table, statement),
                     line: None,
                 }
             }
@@ -409,11 +413,13 @@ impl Editor {
             ) => Remarks {
                 found: None,
                 states: false,
+                is_idle: false,
                 line: Some(*line),
             },
             _ => Remarks {
                 found: None,
                 states: false,
+                is_idle: false,
                 line: None,
             },
         }
@@ -449,7 +455,9 @@ impl Editor {
     ) {
         let table = self.run.session().table();
         let Some(number) = output.refusal() else {
-            if remarks.states {
+            if remarks.is_idle {
+                tell_words(messages, UNCHANGED);
+            } else if remarks.states {
                 self.tell_accepted(messages);
             }
             return;
@@ -500,6 +508,7 @@ impl Editor {
         };
         let (origin, hint) = match own {
             OwnLine::Show(id) => (Origin::Id(id), Hint::Nothing),
+            OwnLine::HelpNumber(_) => (Origin::Here, Hint::NoFault),
             OwnLine::Wrong(_) => (Origin::Here, hint_for(&self.typed, number)),
             _ => (Origin::Here, Hint::Nothing),
         };

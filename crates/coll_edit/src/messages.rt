@@ -33,6 +33,8 @@ const NO_WEIGHTS: u8 = 55;
 
 const BLOCK_OPEN: u8 = 62;
 
+const UNKNOWN_COMMAND: u8 = 64;
+
 /// Tells these words.
 pub(crate) fn tell_words<M: Sink>(messages: &mut M, words: &[u8]) {
     let _ = write_pieces(messages, &[Piece::Bytes(words)]);
@@ -135,6 +137,8 @@ pub(crate) enum Hint<'a> {
     Foreign(ForeignWord),
     /// The line is a command with other operands than it has.
     Spelling,
+    /// The line asks for a number that no fault has.
+    NoFault,
 }
 
 /// What to do about a refusal of the line that was typed last, with a number.
@@ -146,6 +150,9 @@ pub(crate) fn hint_for(typed: &TypedLines, number: u8) -> Hint<'_> {
         Wish::Comment if is_of_word(number) => Hint::Comment,
         Wish::Comment if number == EXTRA_OPERAND || number == BAD_OPERAND => Hint::Comment,
         Wish::Foreign(word) if number == UNKNOWN_STATEMENT => Hint::Foreign(word),
+        Wish::Command(command) if is_unknown(number) && typed.name().is_none() => Hint::Meant(
+            command,
+        ),
         _ => hint_by_words(typed, number),
     }
 }
@@ -162,6 +169,11 @@ fn hint_by_words(typed: &TypedLines, number: u8) -> Hint<'_> {
 // Whether a command is refused for its operands.
 fn is_of_spelling(number: u8) -> bool {
     number == MISSING_OPERAND || number == EXTRA_OPERAND || number == BAD_OPERAND
+}
+
+// Whether a line is refused since nothing begins so.
+fn is_unknown(number: u8) -> bool {
+    number == UNKNOWN_STATEMENT || number == UNKNOWN_COMMAND
 }
 
 // Whether a word or a character is refused as what it isn't.
@@ -210,6 +222,7 @@ fn write_told<M: Sink>(
         Hint::Name(name) => write_meant(messages, Piece::Symbol(name)),
         Hint::Foreign(word) => write_foreign(messages, word),
         Hint::Spelling => write_pieces(messages, &[Piece::Bytes(SPELLING)]),
+        Hint::NoFault => write_pieces(messages, &[Piece::Bytes(NO_FAULT)]),
     }
 }
 
@@ -222,6 +235,9 @@ const NO_COMMENT: &[u8] = b": % begins no comment here; behind a line comment_ch
 
 // Where a command is looked up.
 const SPELLING: &[u8] = b": look with :help how the command is spelled\n";
+
+// What is told of a number that no fault has.
+const NO_FAULT: &[u8] = b": no refusal has this number\n";
 
 // Writes which command is meant, or which name between its brackets.
 fn write_meant<M: Sink>(messages: &mut M, meant: Piece<'_>) -> Result<(), WriteStop> {

@@ -3,8 +3,8 @@
 //! Nothing of it is a fault, and no reply tells it: it goes to standard error behind the reply, and changes none. An entry may stand
 //! where it doesn't sort (`is_misplaced`): it is told with which weights it does. Where it weighs alike the entry before it but for the
 //! letter, that letter's symbol may be moved as well, which takes all along that weigh as the same; others would turn a letter and what
-//! varies it round. A symbol, which has no weights, is put behind a symbol. And a block that another one ends has no `reorder-end`,
-//! which may have been forgotten.
+//! varies it round. A symbol, which has no weights, is put behind a symbol. A statement may leave the table as it is. And a block that
+//! another one ends has no `reorder-end`, which may have been forgotten.
 
 use crate::messages::tell_words;
 use coll_devices::Sink;
@@ -233,3 +233,6 @@ fn tell_others<M: Sink>(messages: &mut M, others: u64) {
 /// What is told of a block that ended without `reorder-end`, since another one begins.
 pub(crate) const UNENDED: &[u8] =
     b"note: the block before has no reorder-end: it ended where this one begins\n";
+
+/// What is told of a statement that leaves the table as it is, in the words of a lint.
+pub(crate) const UNCHANGED: &[u8] = b"note: this changes nothing: the table is so already\n";

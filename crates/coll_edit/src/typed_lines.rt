@@ -3,11 +3,12 @@
 //! A session answers an open block where it ends, with the first fault that spoiled it. A person is told of each line at fault once,
 //! and at once. So each line is read here as well, by a lexer of its own, which reads what the session's does. What is found is for
 //! standard error alone, and changes no reply; where memory is refused, nothing is found. A word that other programs take for `:help`
-//! or `:quit` is found here too, `%`, with which comments of many sources begin, a declared name without its brackets, and a keyword of
-//! another dialect.
+//! or `:quit` is found here too, a command that is mistyped or has no colon, `%`, with which comments of many sources begin, a declared
+//! name without its brackets, and a keyword of another dialect.
 
 ghost use Rattle.coll_lex.specs.Names.{AreTokens};
 
+use coll_advice::is_near;
 use coll_findings::{ForeignWord, foreign_word};
 use coll_lex::{LexFault, Lexer, Line, TextBuf, Token};
 use coll_requests::RequestFault;
@@ -45,7 +46,31 @@ pub(crate) enum Wish {
     Comment,
     /// What another dialect has a keyword for.
     Foreign(ForeignWord),
+    /// This command, which is mistyped or has no colon.
+    Command(&'static str),
 }
+
+// The commands, and the longest word that is looked up among them.
+const COMMANDS: &[&str] = &[
+    ":undo",
+    ":redo",
+    ":history",
+    ":withdraw",
+    ":delta",
+    ":write",
+    ":show",
+    ":key",
+    ":compare",
+    ":explain",
+    ":words",
+    ":check",
+    ":list",
+    ":print",
+    ":help",
+    ":quit",
+];
+
+const LONGEST_COMMAND: usize = 16;
 
 /// A fault of a line that no reply tells where the line is typed.
 #[derive(Clone, Copy)]
@@ -209,7 +234,7 @@ fn wish_of(line: &Line) -> Wish {
         Wish::Nothing if has_comment(tokens) => Wish::Comment,
         Wish::Nothing => match foreign_word(word) {
             Some(word) => Wish::Foreign(word),
-            None => Wish::Nothing,
+            None => wish_for(command_meant(word)),
         },
         wish => wish,
     }
@@ -227,6 +252,41 @@ fn wish_by(word: &Token, alone: bool) -> Wish {
         return Wish::End;
     }
     Wish::Nothing
+}
+
+// What a command that may be meant asks for.
+fn wish_for(command: Option<&'static str>) -> Wish {
+    match command {
+        Some(command) => Wish::Command(command),
+        None => Wish::Nothing,
+    }
+}
+
+// The command that a word with a colon is or is near to, or that one without a colon lacks it for.
+fn command_meant(word: &Token) -> Option<&'static str> {
+    let Token::Word(word) = word else {
+        return None;
+    };
+    if word.get().len() > LONGEST_COMMAND {
+        return None;
+    }
+    for command in COMMANDS {
+        if is_meant(command, word.get()) {
+            return Some(*command);
+        }
+    }
+    None
+}
+
+// Whether a command is meant by a word.
+fn is_meant(command: &str, word: &str) -> bool {
+    if word.starts_with(':') {
+        return is_near(command, word);
+    }
+    match command.strip_prefix(':') {
+        Some(name) => name == word,
+        None => false,
+    }
 }
 
 // Whether a line may be refused since a name has no brackets: one that the grammar refuses, or `:show`.

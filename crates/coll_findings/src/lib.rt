@@ -6,7 +6,8 @@
 //!
 //! - `findings`: faults that are told, with `foreign_words`: keywords of other dialects; `subjects`: what a fault is about;
 //! - `warnings`: what a text says to no purpose, by kinds (`GatheredWarnings`); `unplaced`: what is declared and never placed;
-//!   `first_weights`: what an entry weighs as at the first level, and what doesn't sort where it stands (`FirstWeights`);
+//!   `first_weights`: what an entry weighs as at the first level, and what doesn't sort where it stands (`FirstWeights`); `unchanged`:
+//!   statements that leave a table as it is;
 //! - `collecting`: what is told, as it is gathered;
 //! - `line_surveys`: the lines of a text, handed on one after another.
 #![tactic(auto)]
@@ -17,6 +18,7 @@ mod first_weights;
 mod foreign_words;
 mod line_surveys;
 mod subjects;
+mod unchanged;
 mod unplaced;
 mod warnings;
 
@@ -26,5 +28,6 @@ pub use first_weights::{first_weight, is_misplaced, lead_of, weighs_as};
 pub use foreign_words::{ForeignWord, foreign_word};
 pub use line_surveys::{Opening, TakesLines, first_line, survey_keywords, survey_lines};
 pub use subjects::{about_found, about_id, refused_subject, table_subject};
+pub use unchanged::{changed_nothing, changes_nothing};
 pub use unplaced::{Declarations, DeclaredName};
 pub use warnings::{Warned, WarnedKind, Warning, Warnings};

@@ -40,6 +40,9 @@ use std::marker::Model;
 // Most bytes of all lines that are read, line feeds included.
 const MOST_BYTES: usize = 67_108_864;
 
+// Of so many of the names that are defined it is known whether a condition asked for them.
+const MOST_ASKED: usize = 64;
+
 /// What a source is read as.
 #[derive(Clone, Copy, PartialEq, Eq)]
 pub enum SourceKind {
@@ -125,8 +128,10 @@ pub struct SourceReader {
     copied_at: Option<SourcePlace>,
     // The texts that are being read, each copied by the one before.
     frames: Vec<Frame>,
-    // What is defined.
+    // What is defined: first what was from the start.
     defined: IndexSet<String, HashKeys>,
+    // Whether a condition asked for the name at each of the first places there.
+    asked: [bool; MOST_ASKED],
     // How many lines have been taken, and how many bytes they have.
     taken: u32,
     bytes: usize,
@@ -146,6 +151,7 @@ impl Drop for SourceReader {
             copied_at: _,
             frames,
             defined,
+            asked: _,
             taken: _,
             bytes: _,
             lines,
@@ -211,6 +217,7 @@ impl SourceReader {
                 copied_at: None,
                 frames: Vec::new(alloc),
                 defined,
+                asked: [false; MOST_ASKED],
                 taken: 0,
                 bytes: 0,
                 lines: Vec::new(alloc),
@@ -248,8 +255,18 @@ impl SourceReader {
         self.defined.contains(name)
     }
 
-    /// Reads the text that is wanted from a device, to its end, and reads on: to the end of the source, or to where another text is
-    /// wanted.
+    /// Whether a condition read so far asks for a name that was defined from the start; of more than 64, those behind count as asked for.
+    pub fn asks_for(&self, name: &str) -> bool {
+        match self.defined.get_index_of(name) {
+            Some(place) => match self.asked.get(place) {
+                Some(asked) => *asked,
+                None => true,
+            },
+            None => false,
+        }
+    }
+
+    /// Reads the text that is wanted from a device, to its end, and on: to the end of the source, or to where another text is wanted.
     pub fn take_text<R: Source>(&mut self, input: &mut R) -> Result<(), SourceFault>
         ensures { OnOk result (ReadsAll (R.left input.old) (R.left input.new)) }
     {
@@ -591,10 +608,20 @@ impl SourceReader {
         name: Result<&TextBuf, SourceFault>,
         defined: bool,
     ) -> Result<bool, SourceFault> {
-        let holds = self.defines(name?.get()) == defined;
-        conditions.begin(place, holds)?;
+        let name = name?.get();
+        self.note_asked(name);
+        conditions.begin(place, self.defines(name) == defined)?;
         self.report.count(Adjustment::Conditional, place)?;
         Ok(true)
+    }
+
+    // Notes that a condition asks for a name.
+    fn note_asked(&mut self, name: &str) {
+        if let Some(place) = self.defined.get_index_of(name) {
+            if let Some(asked) = self.asked.get_mut(place) {
+                *asked = true;
+            }
+        }
     }
 
     // Defines a name, where lines count, and counts that.

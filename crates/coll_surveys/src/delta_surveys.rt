@@ -5,7 +5,7 @@
 //! kind in a block is told, and taken as outside of one. What each line leaves is stated (`left_by` of `specs/DeltaSurveys.antt`), so what
 //! is told of a text is stated as a whole.
 //!
-//! Of a statement without fault it warns where it changes nothing (`unchanged`), and of lines whose entries don't sort where they
+//! Of a statement without fault it warns where it changes nothing, and of lines whose entries don't sort where they
 //! stand; of lines without effect; and of what is declared and never placed.
 
 ghost use Rattle.std.specs.Prelude.{◌≡◌, ◌∷◌, [], map, Some, IfOk, IfSome, OnOk, option_map};
@@ -23,12 +23,11 @@ ghost use Rattle.coll_surveys.specs.DeltaSurveys.{open_faults, opened, order_fau
 ghost use Rattle.coll_surveys.specs.DeltaSurveys.{table_behind, table_behind_block, table_behind_left, table_left, text_faults, text_left};
 
 use crate::open_blocks::{EndedBlock, OpenBlock, line_of};
-use crate::unchanged::changed_nothing;
 use coll_advice::{Found, faults_of};
 use coll_faults::Fault;
 use coll_findings::{
     About, Collected, Declarations, DeclaredName, Opening, Surveyed, TakesLines, Warning,
-    about_found, is_misplaced, refused_subject, survey_lines,
+    about_found, changed_nothing, is_misplaced, refused_subject, survey_lines,
 };
 use coll_lex::{EarlyEnd, LexFault, Line, TextBuf};
 use coll_lookups::HashKeys;

@@ -8,7 +8,7 @@
 //!
 //! - `table_surveys`, with `standings` and `table_weights`: a table, line by line (`TableSurveys`, `TableWeights`); `accepted_tables`: one
 //!   without fault;
-//! - `delta_surveys`, with `open_blocks` and `unchanged`: a delta file, statement by statement (`DeltaSurveys`).
+//! - `delta_surveys`, with `open_blocks`: a delta file, statement by statement (`DeltaSurveys`).
 #![tactic(auto)]
 
 mod accepted_tables;
@@ -17,7 +17,6 @@ mod open_blocks;
 mod standings;
 mod table_surveys;
 mod table_weights;
-mod unchanged;
 
 pub use accepted_tables::survey_accepted;
 pub use delta_surveys::survey_delta;

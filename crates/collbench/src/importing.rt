@@ -148,7 +148,7 @@ fn import(
 ) -> Result<ExitCode, AllocError> {
     let (folder, base) = folder_of(file);
     match reader_of(rt.alloc(), keys, wanted.kind(), base, defined) {
-        Ok(reader) => import_by(rt, line, keys, wanted, reader, folder),
+        Ok(reader) => import_by(rt, line, keys, wanted, reader, folder, defined),
         Err(error) => {
             drop(wanted);
             Err(error)
@@ -178,9 +178,13 @@ fn import_by(
     wanted: Wanted,
     reader: SourceReader,
     folder: &str,
+    defined: &[TextBuf],
 ) -> Result<ExitCode, AllocError> {
     let mut reader = reader;
     let read = read_texts(rt, line, &mut reader, folder);
+    if read.is_ok() {
+        warn_of_names(rt, line, &wanted, &reader, folder, defined);
+    }
     match file_names(rt.alloc(), &reader, folder) {
         Ok(files) => {
             let status = finish(rt, line, keys, wanted, reader, read, files.as_slice());
@@ -193,6 +197,48 @@ fn import_by(
             Err(error)
         }
     }
+}
+
+// Warns of each of these names that no condition of a source asks for, since it may be mistyped, and of rules that a table lacks.
+// `BACKWARD` says itself what a table is.
+fn warn_of_names(
+    rt: &HostRuntime,
+    line: &ProgressLine<'_>,
+    wanted: &Wanted,
+    reader: &SourceReader,
+    folder: &str,
+    defined: &[TextBuf],
+) {
+    let Some(source) = reader.text_name(0) else {
+        return;
+    };
+    for name in defined {
+        let name = name.get();
+        if name != BACKWARD && !reader.asks_for(name) {
+            line.hide();
+            let _ = eprintln!(rt; "{folder}{source}: warning: no ifdef asks for {name}");
+        }
+    }
+    if reader.defines(BACKWARD) && lacks_backward(wanted) {
+        let name = BACKWARD;
+        line.hide();
+        let _ = eprintln!(rt;
+            "{folder}{source}: warning: {name} is defined, and TABLE has no rule backward: make it by collbench import with that name"
+        );
+    }
+}
+
+// Whether a source is to change a table of which no rule is backward.
+fn lacks_backward(wanted: &Wanted) -> bool {
+    let Wanted::Delta(table) = wanted else {
+        return false;
+    };
+    for rule in table.rules() {
+        if rule.backward {
+            return false;
+        }
+    }
+    true
 }
 
 // Prints what is made of a source, or tells the fault with which it was read or made.

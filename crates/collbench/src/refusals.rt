@@ -5,7 +5,8 @@
 //! the exit status stay what they are without a terminal.
 //!
 //! Of what a survey doesn't look for more is told here, as an edit tells it: a target or a section that is near, `%` where it begins no
-//! comment; and of a source that one import refuses, which other one takes it.
+//! comment; of a delta file without its category, that a list of words is none; and of a source that one import refuses, which other
+//! one takes it.
 
 use crate::random_keys::random_keys;
 use crate::reasons::told_reason;
@@ -63,6 +64,13 @@ const NO_LONGER: &str =
 
 // What begins a line that chooses the character of comments.
 const COMMENT_CHAR: &[u8] = b"comment_char";
+
+// The number of the fault of a text without its category.
+const NO_CATEGORY: u8 = 30;
+
+// What to do about a delta file that has none, as a list of words.
+const NO_DELTA: &str =
+    "a delta file has a line LC_COLLATE; a list of words is none, and collbench sort reads it from standard input";
 
 // What is surveyed for a fault.
 enum Surveyed {
@@ -211,6 +219,9 @@ fn refused_in_text(
     let mut refused = refused.ok()?;
     if let Some(sentence) = comment_sentence(text, fault.line, fault.fault.number()) {
         refused.sentence = sentence;
+    }
+    if fault.input > 0 && fault.fault.number() == NO_CATEGORY {
+        refused.sentence = NO_DELTA;
     }
     if matches!(fault.fault.number(), TARGET_NOT_PLACED | NO_SUCH_SECTION) {
         if let Some(table) = table_before(rt, keys, fault.input, names) {
