@@ -54,6 +54,7 @@ KEPT_WEIGHTS = (
 )
 C_BACK = "note: taken back: reorder-after <U0061> .. (1 line)"
 C_AGAIN = "note: put again: reorder-after <U0061> .. (1 line)"
+C_WITHDRAWN = "note: withdrawn for good: reorder-after <U0061> .. (1 line)"
 X_BACK = "note: taken back: collating-symbol <X>"
 ONE_UNWRITTEN = "note: 1 statement stands in no file (:write FILE); another :quit drops it"
 FILE_HAD_MORE = "note: the file that was read or written last has statements that were taken back"
@@ -130,7 +131,7 @@ SESSIONS = [
             ("collating-symbol <X>", "ok 2\n> "),
             (":quit", f"{SOME_UNWRITTEN}\n> "),
             (":write new.txt", "written 2\n> "),
-            (":withdraw 1", f"withdrawn 1\n{C_BACK}\n> "),
+            (":withdraw 1", f"withdrawn 1\n{C_WITHDRAWN}\n> "),
             (":undo", f"undone 0\n{X_BACK}\n> "),
             (":undo", "refused 60 NothingToUndo\n60 NothingToUndo: nothing: the table is the one at first\n> "),
             ("collating-symbol <Y>", "ok 1\n> "),
@@ -151,7 +152,7 @@ SESSIONS = [
             (":redo", f"redone 1\n{C_AGAIN}\n> "),
             ("collating-symbol <X>", "ok 2\n> "),
             (":write new.txt", "written 2\n> "),
-            (":withdraw 1", f"withdrawn 1\n{C_BACK}\n> "),
+            (":withdraw 1", f"withdrawn 1\n{C_WITHDRAWN}\n> "),
             (":quit", f"{FILE_HAS_MORE}\n> "),
             (":write other.txt", "written 1\n> "),
         ],
@@ -161,7 +162,7 @@ SESSIONS = [
     ),
     (
         ["edit", "base.txt", "c_behind_a.txt"],
-        [(":withdraw 1", f"withdrawn 0\n{C_BACK}\n> ")],
+        [(":withdraw 1", f"withdrawn 0\n{C_WITHDRAWN}\n> ")],
         END,
         f"\n{FILE_HAD_MORE}\n",
         {},

@@ -66,6 +66,9 @@ pub(crate) fn told_of(alloc: Global, statement: &Statement) -> Option<Told> {
 /// The words that tell of a statement that was taken back.
 pub(crate) const TAKEN_BACK: &[u8] = b"note: taken back: ";
 
+/// The words that tell of one that was withdrawn, which no `:redo` puts again.
+pub(crate) const WITHDRAWN: &[u8] = b"note: withdrawn for good: ";
+
 /// The words that tell of one that was put again.
 pub(crate) const PUT_AGAIN: &[u8] = b"note: put again: ";
 

@@ -29,10 +29,14 @@ ghost use Rattle.coll_edit.specs.Watching.{device_of};
 
 mod own_answers;
 
-use crate::changes::{Asked, PUT_AGAIN, TAKEN_BACK, Told, asked_of, tell_statement, told_of};
+use crate::changes::{
+    Asked, PUT_AGAIN, TAKEN_BACK, Told, WITHDRAWN, asked_of, tell_statement, told_of,
+};
 use crate::copies::copied_statement;
 use crate::devices::OpensFiles;
-use crate::messages::{Hint, Origin, hint_for, tell_refusal, tell_unwritten, tell_words};
+use crate::messages::{
+    Hint, Origin, hint_for, hint_of_help, tell_refusal, tell_unwritten, tell_words,
+};
 use crate::notes::{UNCHANGED, UNENDED, tell_notes};
 use crate::own_lines::{OwnLine, own_line};
 use crate::stored::Stored;
@@ -345,8 +349,9 @@ impl Editor {
         }
         let now = self.run.session().remaining_len();
         match (asked, back) {
-            (Asked::Undo | Asked::Withdrawal(_), Some(told)) if now < before => {
-                tell_statement(messages, TAKEN_BACK, told)
+            (Asked::Undo, Some(told)) if now < before => tell_statement(messages, TAKEN_BACK, told),
+            (Asked::Withdrawal(_), Some(told)) if now < before => {
+                tell_statement(messages, WITHDRAWN, told)
             }
             (Asked::Redo, _) if now > before => {
                 if let Some(told) = self.told_at(now) {
@@ -508,7 +513,7 @@ impl Editor {
         };
         let (origin, hint) = match own {
             OwnLine::Show(id) => (Origin::Id(id), Hint::Nothing),
-            OwnLine::HelpNumber(_) => (Origin::Here, Hint::NoFault),
+            OwnLine::HelpNumber(text) => (Origin::Here, hint_of_help(text.get())),
             OwnLine::Wrong(_) => (Origin::Here, hint_for(&self.typed, number)),
             _ => (Origin::Here, Hint::Nothing),
         };

@@ -139,6 +139,10 @@ pub(crate) enum Hint<'a> {
     Spelling,
     /// The line asks for a number that no fault has.
     NoFault,
+    /// The line asks what something means that is no number.
+    NoNumber,
+    /// The line begins with nothing that an edit knows.
+    Unknown,
 }
 
 /// What to do about a refusal of the line that was typed last, with a number.
@@ -157,11 +161,20 @@ pub(crate) fn hint_for(typed: &TypedLines, number: u8) -> Hint<'_> {
     }
 }
 
+/// What to do about `:help` behind which this stands, where no fault has that number.
+pub(crate) fn hint_of_help(text: &str) -> Hint<'_> {
+    match text.parse::<u32>() {
+        Ok(_) => Hint::NoFault,
+        Err(_) => Hint::NoNumber,
+    }
+}
+
 // What to do about such a refusal by the names of the line, or since it is a command.
 fn hint_by_words(typed: &TypedLines, number: u8) -> Hint<'_> {
     match typed.name() {
         Some(name) if number == UNKNOWN_STATEMENT || number == BAD_OPERAND => Hint::Name(name),
         _ if typed.is_command() && is_of_spelling(number) => Hint::Spelling,
+        _ if number == UNKNOWN_STATEMENT => Hint::Unknown,
         _ => Hint::Nothing,
     }
 }
@@ -223,6 +236,8 @@ fn write_told<M: Sink>(
         Hint::Foreign(word) => write_foreign(messages, word),
         Hint::Spelling => write_pieces(messages, &[Piece::Bytes(SPELLING)]),
         Hint::NoFault => write_pieces(messages, &[Piece::Bytes(NO_FAULT)]),
+        Hint::NoNumber => write_pieces(messages, &[Piece::Bytes(NO_NUMBER)]),
+        Hint::Unknown => write_pieces(messages, &[Piece::Bytes(UNKNOWN)]),
     }
 }
 
@@ -238,6 +253,13 @@ const SPELLING: &[u8] = b": look with :help how the command is spelled\n";
 
 // What is told of a number that no fault has.
 const NO_FAULT: &[u8] = b": no refusal has this number\n";
+
+// What is told of a line that begins with nothing known here.
+const UNKNOWN: &[u8] = b": look for a mistyped keyword; :help tells of each line\n";
+
+// What is told of something else than a number.
+const NO_NUMBER: &[u8] =
+    b": behind :help stands the number of a refusal; :help alone tells of each line\n";
 
 // Writes which command is meant, or which name between its brackets.
 fn write_meant<M: Sink>(messages: &mut M, meant: Piece<'_>) -> Result<(), WriteStop> {

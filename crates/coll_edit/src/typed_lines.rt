@@ -50,23 +50,24 @@ pub(crate) enum Wish {
     Command(&'static str),
 }
 
-// The commands, and the longest word that is looked up among them.
+// The commands, of those that begin alike the one first that its first letter is to mean, and the longest word that is looked up among
+// them.
 const COMMANDS: &[&str] = &[
     ":undo",
     ":redo",
+    ":help",
     ":history",
-    ":withdraw",
     ":delta",
     ":write",
+    ":words",
+    ":withdraw",
     ":show",
     ":key",
     ":compare",
-    ":explain",
-    ":words",
     ":check",
+    ":explain",
     ":list",
     ":print",
-    ":help",
     ":quit",
 ];
 
@@ -262,7 +263,7 @@ fn wish_for(command: Option<&'static str>) -> Wish {
     }
 }
 
-// The command that a word with a colon is or is near to, or that one without a colon lacks it for.
+// The command that a word with a colon is near to or begins, or that one without a colon lacks it for.
 fn command_meant(word: &Token) -> Option<&'static str> {
     let Token::Word(word) = word else {
         return None;
@@ -278,13 +279,13 @@ fn command_meant(word: &Token) -> Option<&'static str> {
     None
 }
 
-// Whether a command is meant by a word.
+// Whether a command is meant by a word, which isn't the command.
 fn is_meant(command: &str, word: &str) -> bool {
     if word.starts_with(':') {
-        return is_near(command, word);
+        return command != word && (command.starts_with(word) || is_near(command, word));
     }
     match command.strip_prefix(':') {
-        Some(name) => name == word,
+        Some(name) => name.eq_ignore_ascii_case(word),
         None => false,
     }
 }
@@ -301,19 +302,36 @@ fn may_lack_brackets(typed: TypedLine, line: &Line) -> bool {
     }
 }
 
-// The first word of several characters that is a declared name; none where memory is refused. One character is an identifier without
-// brackets.
+// The first word of several characters that is a declared name, or spelled as that of a character; none where memory is refused. One
+// character is an identifier without brackets.
 fn bare_name(table: &Table, line: &Line) -> Option<TextBuf> {
     for token in line.tokens.get() {
         match token {
-            Token::Word(word)
-                if word.get().chars().nth(1).is_some() && table.resolve(word.get()).is_some() => {
+            Token::Word(word) if lacks_brackets(table, word.get()) => {
                 return word.try_copy().ok();
             }
             _ => {}
         }
     }
     None
+}
+
+// Whether a word is an identifier but for its brackets.
+fn lacks_brackets(table: &Table, word: &str) -> bool {
+    if is_code_point(word.as_bytes()) {
+        return true;
+    }
+    word.chars().nth(1).is_some() && table.resolve(word).is_some()
+}
+
+// Whether a word is spelled as the name of a character: `U` and four to eight hexadecimal digits.
+fn is_code_point(word: &[u8]) -> bool {
+    match word {
+        [b'U', digits @ ..] => {
+            (4..=8).contains(&digits.len()) && digits.iter().all(u8::is_ascii_hexdigit)
+        }
+        _ => false,
+    }
 }
 
 // Whether a word begins as a comment does in many sources.

@@ -24,7 +24,7 @@ an ID is a character, <U00F6> or \xC3\xB6, a name, <BASE>, or UNDEFINED
 what was done:
   :undo  :redo         the last statement is taken back, and put again
   :history             the statements that remain, with their numbers
-  :withdraw K          the statement with the number K is taken from among the others
+  :withdraw K          the statement with the number K is taken from among the others, for good
   :delta               the statements that remain, as a delta file
   :write FILE          the same, into a new file
 the table:

@@ -11,10 +11,10 @@ use itoa::Buffer;
 const MOST_DIGITS: usize = 10;
 
 /// Most bytes of a count with its commas.
-pub(crate) const MOST_COUNT_BYTES: usize = 2 * MOST_DIGITS;
+pub const MOST_COUNT_BYTES: usize = 2 * MOST_DIGITS;
 
 /// The digits of a count, with their commas.
-pub(crate) fn with_commas(count: u32) -> ArrayVec<u8, MOST_COUNT_BYTES>
+pub fn with_commas(count: u32) -> ArrayVec<u8, MOST_COUNT_BYTES>
     ensures { result.items ≡ commas count }
 {
     let mut digits = Buffer::new();

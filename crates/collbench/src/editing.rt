@@ -29,18 +29,32 @@ impl<'a> OpensFiles for SystemFiles<'a> {
 
     type Output = Counted<File>;
 
+    // A folder is opened as a file is, and can't be read.
     fn open(&mut self, name: &str) -> Result<Counted<File>, FileReason> {
         match File::open(self.rt, name) {
+            Ok(file) if is_folder(&file) => Err(FileReason::Folder),
             Ok(file) => Ok(Counted::new(file)),
             Err(error) => Err(reason_of(error.kind())),
         }
     }
 
+    // Where a new file isn't found, its folder isn't there.
     fn create(&mut self, name: &str) -> Result<Counted<File>, FileReason> {
         match File::create_new(self.rt, name) {
             Ok(file) => Ok(Counted::new(file)),
-            Err(error) => Err(reason_of(error.kind())),
+            Err(error) => match reason_of(error.kind()) {
+                FileReason::Missing if !name.is_empty() => Err(FileReason::NoFolder),
+                reason => Err(reason),
+            },
         }
+    }
+}
+
+// Whether a file that was opened is a folder.
+fn is_folder(file: &File) -> bool {
+    match file.metadata() {
+        Ok(metadata) => metadata.is_dir(),
+        Err(_) => false,
     }
 }
 
@@ -65,7 +79,7 @@ impl ServesLines for Editor {
     }
 
     // What an edit says beside a fault stands in its replies.
-    fn tell(rt: &HostRuntime, fault: &RunFault, names: &[String]) -> ExitCode {
+    fn tell_served(rt: &HostRuntime, fault: &RunFault, names: &[String]) -> ExitCode {
         tell_fault_line(rt, fault, names)
     }
 }

@@ -5,6 +5,7 @@
 
 use coll_import::write_symbols_behind;
 use coll_lex::{Counted, Sink, WriteStop};
+use coll_lint::with_commas;
 use coll_table::Table;
 use coll_texts::{Piece, write_pieces};
 use std::alloc::Global;
@@ -76,12 +77,13 @@ pub(crate) fn tell_symbols<W: Sink>(alloc: Global, table: &Table, file: &str, ou
 
 // Writes how many symbols stand behind a character, and the first of them.
 fn write_several<W: Sink>(file: &str, firsts: &FirstLines, out: &mut W) -> Result<(), WriteStop> {
+    let count = with_commas(firsts.lines);
     write_pieces(
         out,
         &[
             Piece::Bytes(file.as_bytes()),
             Piece::Bytes(b": behind a character: "),
-            Piece::Number(u64::from(firsts.lines)),
+            Piece::Bytes(count.as_slice()),
             Piece::Bytes(b" symbols, as"),
         ],
     )?;

@@ -5,8 +5,8 @@
 //! the exit status stay what they are without a terminal.
 //!
 //! Of what a survey doesn't look for more is told here, as an edit tells it: a target or a section that is near, `%` where it begins no
-//! comment; of a delta file without its category, that a list of words is none; and of a source that one import refuses, which other
-//! one takes it.
+//! comment; of a delta file without its category, that a list of words is none; of a block that isn't ended, where it begins; and of a
+//! source that one import refuses, which other one takes it.
 
 use crate::random_keys::random_keys;
 use crate::reasons::told_reason;
@@ -72,6 +72,14 @@ const NO_CATEGORY: u8 = 30;
 const NO_DELTA: &str =
     "a delta file has a line LC_COLLATE; a list of words is none, and collbench sort reads it from standard input";
 
+// The numbers of the faults of a block that is still open.
+const BLOCK_OPEN: u8 = 62;
+
+const BLOCK_NOT_ENDED: u8 = 63;
+
+// What begins the line that opens a block.
+const REORDER_AFTER: &[u8] = b"reorder-after";
+
 // What is surveyed for a fault.
 enum Surveyed {
     Table,
@@ -90,6 +98,9 @@ pub(crate) fn tell_below(rt: &HostRuntime, fault: &RunFault, names: &[String]) {
         Some(name) => {
             let refused = refused_in_file(rt, fault, name.as_str(), names);
             tell_refused(rt, number, refused);
+            if number == BLOCK_OPEN || number == BLOCK_NOT_ENDED {
+                tell_open_block(rt, fault.line, name.as_str());
+            }
         }
         None => tell_alone(rt, number),
     }
@@ -164,6 +175,29 @@ fn tell_missing_copy(rt: &HostRuntime, name: &str, folder: &str) {
     let _ = eprintln!(rt;
         "{words}: what a source copies is looked for in the folder of the source, {folder}"
     );
+}
+
+// Tells in which line of the file with this name the block begins that is open in the line with this number.
+fn tell_open_block(rt: &HostRuntime, number: u32, name: &str) {
+    let Some(text) = kept_file(rt, name) else {
+        return;
+    };
+    if let Some(begin) = last_block(text.as_slice(), number) {
+        let _ = eprintln!(rt; "the open block begins in line {begin}");
+    }
+    drop(text);
+}
+
+// The number of the last line of a text that opens a block, before the line with this number.
+fn last_block(text: &[u8], number: u32) -> Option<u32> {
+    let mut begin = None;
+    let mut lines = text.split(is_line_feed);
+    for before in 1..number {
+        if past_blanks(lines.next()?).starts_with(REORDER_AFTER) {
+            begin = Some(before);
+        }
+    }
+    begin
 }
 
 // Why a file can't be read, where the system says it.

@@ -30,8 +30,8 @@ pub(crate) trait ServesLines: Drop {
     fn serve(self, rt: &HostRuntime, line: &ProgressLine<'_>) -> Result<(), RunFault>
         ensures { IfErr result (λ fault. fault.input ≡ 0) };
 
-    /// Tells a fault of inputs with these names, and answers the exit status.
-    fn tell(rt: &HostRuntime, fault: &RunFault, names: &[String]) -> ExitCode
+    /// Tells a fault of the lines, which are an input with one of these names, and answers the exit status.
+    fn tell_served(rt: &HostRuntime, fault: &RunFault, names: &[String]) -> ExitCode
         requires { fault.now.input < length names.now }
     {
         tell_fault(rt, fault, names)
@@ -77,13 +77,13 @@ fn serve_by<S: ServesLines>(
             line.hide();
             match ran {
                 Ok(()) => ExitCode::SUCCESS,
-                Err(fault) => S::tell(rt, &fault, &[name]),
+                Err(fault) => S::tell_served(rt, &fault, &[name]),
             }
         }
         Err(fault) => {
             line.hide();
             drop(name);
-            S::tell(rt, &fault, names)
+            tell_fault(rt, &fault, names)
         }
     }
 }
