@@ -25,7 +25,8 @@ SECONDS = 60
 NOT_UTF8 = "save the text as UTF-8, or take the bytes out, also in a comment"
 OPEN_SYMBOL = "close the symbol with >; escape a < that is meant as a character"
 UNKNOWN = "look for a mistyped keyword, a line of deltas in a table (copy, reorder-after), or a command in a delta file"
-EXTRA = "take the rest of the line away; between operands of weights stand semicolons, and no range (..)"
+ALONE = "write order_end alone"
+AFTER = "write reorder-after and one identifier, a character or a name between < and >"
 NO_CATEGORY = "write the line LC_COLLATE, with nothing but blanks or a comment behind it"
 NO_DELTA = "a delta file has a line LC_COLLATE; a list of words is none, and collbench sort reads it from standard input"
 NOT_DECLARED = "declare it with collating-symbol"
@@ -91,7 +92,7 @@ RUNS = [
     of_table("a keyword of another dialect", "LC_COLLATE\norder-start forward\nEND LC_COLLATE\n", "2: 20 UnknownStatement",
              "  2 | order-start forward", "    | ^^^^^^^^^^^", "order_start is meant?"),
     of_table("a line that is at fault as a whole", table("a", "  order_end x # y"), "4: 22 ExtraOperand", "  4 |   order_end x # y",
-             "    |   ^^^^^^^^^^^^^^^", EXTRA),
+             "    |   ^^^^^^^^^^^^^^^", ALONE),
     # What the lexer refuses.
     of_table("bytes that are no UTF-8", b"LC_COLLATE\norder_start forward\n# stra\xdfe x\norder_end\nEND LC_COLLATE\n", "3: 1 NotUtf8",
              "  3 | # stra\ufffde x", "    |       ^", NOT_UTF8),
@@ -122,7 +123,7 @@ RUNS = [
              f"  3 | {' ' * 192}a <BASE>", f"    | {' ' * 194}^^^^^^", NOT_DECLARED),
     of_table("a long line with its mark in the middle", table(f"{' ' * 300}a <BASE> # {'x' * 300}"), "3: 34 NotDeclared",
              f"  3 | {' ' * 18}a <BASE> # {'x' * 171}", f"    | {' ' * 20}^^^^^^", NOT_DECLARED),
-    of_table("a long mark", table("a", f"order_end {'x' * 300}"), "4: 22 ExtraOperand", f"  4 | order_end {'x' * 190}", f"    | {'^' * 200}", EXTRA),
+    of_table("a long mark", table("a", f"order_end {'x' * 300}"), "4: 22 ExtraOperand", f"  4 | order_end {'x' * 190}", f"    | {'^' * 200}", ALONE),
     of_table("a number of three digits", table(*(f"<U{number:04X}>" for number in range(256, 356)), "<BASE>"), "103: 34 NotDeclared",
              "  103 | <BASE>", "      | ^^^^^^", NOT_DECLARED),
     # How a text ends.
@@ -163,12 +164,16 @@ RUNS = [
     of_delta("the same where a third character was chosen, as in an edit", "comment_char /\nLC_COLLATE\nreorder-after a % b\nEND LC_COLLATE\n",
              "3: 22 ExtraOperand", "  3 | reorder-after a % b", "    | ^^^^^^^^^^^^^^^^^^^", NO_COMMENT),
     of_delta("a line with the character that was chosen", "comment_char %\nLC_COLLATE\nreorder-after a b % c\nEND LC_COLLATE\n",
-             "3: 22 ExtraOperand", "  3 | reorder-after a b % c", "    | ^^^^^^^^^^^^^^^^^^^^^", EXTRA),
+             "3: 22 ExtraOperand", "  3 | reorder-after a b % c", "    | ^^^^^^^^^^^^^^^^^^^^^", AFTER),
     of_delta("a line that may not stand in a block", block("<U0062>", "collating-symbol <X>"), "4: 62 BlockOpen",
              "  4 | collating-symbol <X>", "    | ^^^^^^^^^^^^^^^^^^^^", "end the block by reorder-end; put the line before it or behind",
              "the open block begins in line 2"),
     of_delta("a block without an end, behind another one", delta("reorder-after a", "b", "", " reorder-after b", "c"), "7: 63 BlockNotEnded",
              "  7 | END LC_COLLATE", "    | ^^^^^^^^^^^^^^", "write reorder-end before the end", "the open block begins in line 5"),
+    of_delta("an element without quotes", delta("collating-element <ch> from ch"), "2: 29 BadOperand", "  2 | collating-element <ch> from ch",
+             "    | ^^^^^^^^^^^^^^^^^^^^^^^^^^^^^^",
+             'write collating-element <X> from "ab", with the name between < and >, and the characters in quotes'),
+    of_delta("a weight without brackets", block("b BASE"), "3: 29 BadOperand", "  3 | b BASE", "    | ^^^^^^", "write a name between < and >, and part weights by ;"),
     of_delta("an end of no block", delta("reorder-end"), "2: 69 NoBlock", "  2 | reorder-end", "    | ^^^^^^^^^^^", "write reorder-after, or drop the line"),
     of_delta("a section that isn't there", delta("reorder-section-after <PUNCT> <DIGITS>"), "2: 52 NoSuchSection",
              "  2 | reorder-section-after <PUNCT> <DIGITS>", "    |                               ^^^^^^^^",

@@ -143,6 +143,8 @@ pub(crate) enum Hint<'a> {
     NoNumber,
     /// The line begins with nothing that an edit knows.
     Unknown,
+    /// The line has other operands than it has to have: this says how it is written.
+    Written(&'static str),
 }
 
 /// What to do about a refusal of the line that was typed last, with a number.
@@ -175,7 +177,10 @@ fn hint_by_words(typed: &TypedLines, number: u8) -> Hint<'_> {
         Some(name) if number == UNKNOWN_STATEMENT || number == BAD_OPERAND => Hint::Name(name),
         _ if typed.is_command() && is_of_spelling(number) => Hint::Spelling,
         _ if number == UNKNOWN_STATEMENT => Hint::Unknown,
-        _ => Hint::Nothing,
+        _ => match typed.written(number) {
+            Some(written) => Hint::Written(written),
+            None => Hint::Nothing,
+        },
     }
 }
 
@@ -238,6 +243,7 @@ fn write_told<M: Sink>(
         Hint::NoFault => write_pieces(messages, &[Piece::Bytes(NO_FAULT)]),
         Hint::NoNumber => write_pieces(messages, &[Piece::Bytes(NO_NUMBER)]),
         Hint::Unknown => write_pieces(messages, &[Piece::Bytes(UNKNOWN)]),
+        Hint::Written(written) => write_said(messages, written),
     }
 }
 
@@ -267,6 +273,16 @@ fn write_meant<M: Sink>(messages: &mut M, meant: Piece<'_>) -> Result<(), WriteS
     write_pieces(messages, &pieces)
 }
 
+// Writes what to do.
+fn write_said<M: Sink>(messages: &mut M, said: &'static str) -> Result<(), WriteStop> {
+    let pieces = [
+        Piece::Bytes(b": "),
+        Piece::Bytes(said.as_bytes()),
+        Piece::Bytes(b"\n"),
+    ];
+    write_pieces(messages, &pieces)
+}
+
 // Writes a keyword of another dialect, and what to write instead, as a lint does.
 fn write_foreign<M: Sink>(messages: &mut M, word: ForeignWord) -> Result<(), WriteStop> {
     if let Some(theirs) = word.theirs {
@@ -275,14 +291,7 @@ fn write_foreign<M: Sink>(messages: &mut M, word: ForeignWord) -> Result<(), Wri
             &[Piece::Bytes(b" "), Piece::Bytes(theirs.as_bytes())],
         )?;
     }
-    write_pieces(
-        messages,
-        &[
-            Piece::Bytes(b": "),
-            Piece::Bytes(word.ours.as_bytes()),
-            Piece::Bytes(b"\n"),
-        ],
-    )
+    write_said(messages, word.ours)
 }
 
 // Writes which statement needs the one that was to be withdrawn.

@@ -9,7 +9,7 @@
 ghost use Rattle.coll_lex.specs.Names.{AreTokens};
 
 use coll_advice::is_near;
-use coll_findings::{ForeignWord, foreign_word};
+use coll_findings::{ForeignWord, foreign_word, operand_advice};
 use coll_lex::{LexFault, Lexer, Line, TextBuf, Token};
 use coll_requests::RequestFault;
 use coll_syntax::{DeltaLine, MOST_BLOCK_LINES, SyntaxFault, is_word, parse_delta_line};
@@ -90,6 +90,8 @@ pub(crate) struct TypedLines {
     wish: Wish,
     // The first declared name that the last line has without its brackets, where it may be refused for that.
     name: Option<TextBuf>,
+    // How the last line is written, where its fault is one of its operands.
+    written: Option<&'static str>,
     // How many lines the block has, those at fault too.
     lines: usize,
     // The number of the first fault that was told of the block.
@@ -105,6 +107,7 @@ impl TypedLines {
             last: TypedLine::Nothing,
             wish: Wish::Nothing,
             name: None,
+            written: None,
             lines: 0,
             first: None,
         })
@@ -114,6 +117,7 @@ impl TypedLines {
     pub fn read(&mut self, alloc: Global, table: &Table, line: &[u8]) {
         self.last = TypedLine::Nothing;
         self.wish = Wish::Nothing;
+        self.written = None;
         drop(self.name.take());
         match self.lexer.feed(line) {
             Ok(Some(line)) => {
@@ -121,6 +125,9 @@ impl TypedLines {
                 self.wish = wish_of(&line);
                 if may_lack_brackets(self.last, &line) {
                     self.name = bare_name(table, &line);
+                }
+                if let TypedLine::Fault(number) = self.last {
+                    self.written = operand_advice(&line, number);
                 }
                 drop(line);
             }
@@ -139,6 +146,14 @@ impl TypedLines {
         match &self.name {
             Some(name) => Some(name.get()),
             None => None,
+        }
+    }
+
+    /// How the last line is written, where it is refused with this number for its operands.
+    pub fn written(&self, number: u8) -> Option<&'static str> {
+        match self.last {
+            TypedLine::Fault(fault) if fault == number => self.written,
+            _ => None,
         }
     }
 

@@ -123,6 +123,21 @@ impl Collected {
         ensures { OnOk result (Tells self.old.told.faults.items self.new.told.faults.items
             (record { begins = begins; line = line; fault = fault } ∷ [])) }
     {
+        self.tell_saying(begins, line, fault, about, None)
+    }
+
+    /// Tells a fault of a line as `tell` does, with this as what to do, where something is said of it.
+    pub fn tell_saying(
+        &mut self,
+        begins: u32,
+        line: u32,
+        fault: Fault,
+        about: About,
+        said: Option<&'static str>,
+    ) -> Result<(), AllocError>
+        ensures { OnOk result (Tells self.old.told.faults.items self.new.told.faults.items
+            (record { begins = begins; line = line; fault = fault } ∷ [])) }
+    {
         match self.is_new(fault.number(), &about) {
             Ok(true) => {
                 let fault = RunFault {
@@ -130,7 +145,7 @@ impl Collected {
                     line: begins,
                     fault,
                 };
-                self.push(FoundFault::new(fault, line, about))
+                self.push(FoundFault::new(fault, line, about, said))
             }
             Ok(false) => {
                 drop(about);

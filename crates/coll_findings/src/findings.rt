@@ -59,17 +59,16 @@ pub struct FoundFault {
 }
 
 impl FoundFault {
-    /// A fault at a line of its own, with what to do by its number and by what it is about.
-    pub fn new(fault: RunFault, line: u32, about: About) -> FoundFault
+    /// A fault at a line of its own, with what to do: what is said of it, or else by its number and by what it is about.
+    pub fn new(fault: RunFault, line: u32, about: About, said: Option<&'static str>) -> FoundFault
         ensures fault { result.fault ≡ fault }
         ensures line { result.line ≡ line }
         ensures about { result.about ≡ about }
     {
-        let id = match &about {
-            About::Id { id, .. } => Some(id),
-            About::Nothing | About::Word(_) => None,
+        let sentence = match said {
+            Some(said) => said,
+            None => sentence_by(fault.fault.number(), &about),
         };
-        let sentence = sentence_for(fault.fault.number(), id).unwrap_or("");
         FoundFault {
             fault,
             line,
@@ -101,4 +100,13 @@ impl FoundFault {
             About::Nothing | About::Word(_) => false,
         }
     }
+}
+
+// What to do about a fault by its number and by what it is about.
+fn sentence_by(number: u8, about: &About) -> &'static str {
+    let id = match about {
+        About::Id { id, .. } => Some(id),
+        About::Nothing | About::Word(_) => None,
+    };
+    sentence_for(number, id).unwrap_or("")
 }

@@ -4,7 +4,8 @@
 //! lines of a text are handed on up to the end of its category, also behind those that the lexer refuses (`SurveyedLines`). What judging a
 //! line gives is for coll_surveys. A way through the crate:
 //!
-//! - `findings`: faults that are told, with `foreign_words`: keywords of other dialects; `subjects`: what a fault is about;
+//! - `findings`: faults that are told, with `foreign_words`: keywords of other dialects; `operand_advice`: how a line is written that is
+//!   refused; `subjects`: what a fault is about;
 //! - `warnings`: what a text says to no purpose, by kinds (`GatheredWarnings`); `unplaced`: what is declared and never placed;
 //!   `first_weights`: what an entry weighs as at the first level, and what doesn't sort where it stands (`FirstWeights`); `unchanged`:
 //!   statements that leave a table as it is;
@@ -17,6 +18,7 @@ mod findings;
 mod first_weights;
 mod foreign_words;
 mod line_surveys;
+mod operand_advice;
 mod subjects;
 mod unchanged;
 mod unplaced;
@@ -27,6 +29,7 @@ pub use findings::{About, FoundFault};
 pub use first_weights::{first_weight, is_misplaced, lead_of, weighs_as};
 pub use foreign_words::{ForeignWord, foreign_word};
 pub use line_surveys::{Opening, TakesLines, first_line, survey_keywords, survey_lines};
+pub use operand_advice::operand_advice;
 pub use subjects::{about_found, about_id, refused_subject, table_subject};
 pub use unchanged::{changed_nothing, changes_nothing};
 pub use unplaced::{Declarations, DeclaredName};

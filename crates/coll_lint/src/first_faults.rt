@@ -35,11 +35,11 @@ pub(crate) fn found_as(first: RunFault, faults: &mut Vec<FoundFault>) -> FoundFa
                 fault: _,
                 line,
                 about,
-                sentence: _,
+                sentence,
             } = faults.remove(place);
-            FoundFault::new(first, line, about)
+            FoundFault::new(first, line, about, Some(sentence))
         }
-        None => FoundFault::new(first, first.line, About::Nothing),
+        None => FoundFault::new(first, first.line, About::Nothing, None),
     }
 }
 

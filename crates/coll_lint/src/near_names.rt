@@ -1,9 +1,10 @@
-//! Declared names that may be meant where a name isn't declared, or a target has no entry.
+//! Names that may be meant: declared ones where a name isn't declared, or a target has no entry, and those of sections where one isn't
+//! there.
 
 ghost use Rattle.std.specs.Prelude.{◌≡◌, length, map, OnOk};
 ghost use Rattle.coll_lint.specs.Orders.{bare_fault, bare_subject};
 
-use coll_advice::nearest_name;
+use coll_advice::{nearest_name, nearest_section};
 use coll_findings::{About, FoundFault};
 use coll_lex::TextBuf;
 use coll_syntax::Id;
@@ -16,10 +17,13 @@ const NOT_DECLARED: u8 = 34;
 // The number of a target that has no entry.
 const TARGET_NOT_PLACED: u8 = 50;
 
-// Most faults for which a name is looked for, since each of them takes a look at all declared names.
+// The number of a section that isn't there.
+const NO_SUCH_SECTION: u8 = 52;
+
+// Most faults for which a name is looked for, since each of them takes a look at all names.
 const MOST_SOUGHT: usize = 20;
 
-/// Gives the first faults that are about a name which may be mistyped the declared name that is nearest, where one is near.
+/// Gives the first faults that are about a name which may be mistyped the name that is nearest, where one is near.
 pub(crate) fn seek_near_names(
     alloc: Global,
     table: &Table,
@@ -44,39 +48,45 @@ fn seek_in_turn(
 ) -> Result<usize, AllocError>
     ensures { OnOk result (bare_fault found.new ≡ bare_fault found.old) }
 {
-    if sought >= MOST_SOUGHT || !is_of_name(found.fault.fault.number()) {
+    let number = found.fault.fault.number();
+    if sought >= MOST_SOUGHT || !is_of_name(number) {
         return Ok(sought);
     }
-    seek_near(alloc, table, &mut found.about)?;
+    seek_near(alloc, table, number, &mut found.about)?;
     Ok(sought.saturating_add(1))
 }
 
 // Whether a fault with this number may be about a name that is mistyped.
 fn is_of_name(number: u8) -> bool {
-    number == NOT_DECLARED || number == TARGET_NOT_PLACED
+    matches!(number, NOT_DECLARED | TARGET_NOT_PLACED | NO_SUCH_SECTION)
 }
 
-// Gives what a fault is about the declared name that is nearest, where one is near.
-fn seek_near(alloc: Global, table: &Table, about: &mut About) -> Result<(), AllocError>
+// Gives what a fault with this number is about the name that is nearest, where one is near.
+fn seek_near(alloc: Global, table: &Table, number: u8, about: &mut About) -> Result<(), AllocError>
     ensures { OnOk result (bare_subject about.new ≡ bare_subject about.old) }
 {
     match about {
-        About::Id { id, near } => fill_near(alloc, table, id, near),
+        About::Id { id, near } => fill_near(alloc, table, number, id, near),
         About::Nothing | About::Word(_) => Ok(()),
     }
 }
 
-// Gives an identifier the declared name that is nearest, where one is near.
+// Gives an identifier the name that is nearest, where one is near.
 fn fill_near(
     alloc: Global,
     table: &Table,
+    number: u8,
     id: &Id,
     near: &mut Option<TextBuf>,
 ) -> Result<(), AllocError> {
     let Id::Named(name) = id else {
         return Ok(());
     };
-    match nearest_name(table, name.get()) {
+    let found = match number {
+        NO_SUCH_SECTION => nearest_section(table, name.get()),
+        _ => nearest_name(table, name.get()),
+    };
+    match found {
         Some(found) => {
             let found = TextBuf::copied(alloc, found)?;
             drop(near.replace(found));

@@ -27,7 +27,7 @@ use coll_advice::{Found, faults_of};
 use coll_faults::Fault;
 use coll_findings::{
     About, Collected, Declarations, DeclaredName, Opening, Surveyed, TakesLines, Warning,
-    about_found, changed_nothing, is_misplaced, refused_subject, survey_lines,
+    about_found, changed_nothing, is_misplaced, operand_advice, refused_subject, survey_lines,
 };
 use coll_lex::{EarlyEnd, LexFault, Line, TextBuf};
 use coll_lookups::HashKeys;
@@ -166,7 +166,7 @@ impl DeltaSurvey {
         ensures left { OnOk result (delta_state self.new ≡ left_passed (delta_state self.old) line.now.number opening) }
     {
         let about = refused_subject(self.alloc, line, fault)?;
-        tell(line.number, Fault::Syntax(fault), about, &mut self.told)?;
+        tell_refused(line, fault, about, &mut self.told)?;
         self.pass_over(line.number, opening)
     }
 
@@ -483,6 +483,20 @@ fn tell(number: u32, fault: Fault, about: About, told: &mut Collected) -> Result
     ensures { OnOk result (Tells told.old.told.faults.items told.new.told.faults.items (at_line number fault ∷ [])) }
 {
     told.tell(number, number, fault, about)
+}
+
+// Tells a line that the grammar refuses, and how it is written.
+fn tell_refused(
+    line: &Line,
+    fault: SyntaxFault,
+    about: About,
+    told: &mut Collected,
+) -> Result<(), AllocError>
+    ensures { OnOk result (Tells told.old.told.faults.items told.new.told.faults.items
+        (at_line line.now.number (refused.Syntax fault) ∷ [])) }
+{
+    let said = operand_advice(line, fault.number());
+    told.tell_saying(line.number, line.number, Fault::Syntax(fault), about, said)
 }
 
 // Tells a line that no block takes, where one is open.

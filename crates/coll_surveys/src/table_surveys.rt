@@ -28,7 +28,7 @@ use crate::table_weights::survey_weights;
 use coll_faults::Fault;
 use coll_findings::{
     About, Collected, Declarations, DeclaredName, Opening, Surveyed, TakesLines, Warning,
-    refused_subject, survey_lines, table_subject,
+    operand_advice, refused_subject, survey_lines, table_subject,
 };
 use coll_lex::{LexFault, Line};
 use coll_lookups::HashKeys;
@@ -192,11 +192,7 @@ impl TableSurvey {
         let begins = begins_with_order_start(line);
         self.standing = self.standing.behind_refused(begins);
         open_if(begins, &mut self.builder)?;
-        let fault = LoadFault {
-            line: line.number,
-            cause: LoadCause::Syntax(fault),
-        };
-        tell(fault, about, &mut self.told)
+        tell_refused(line, fault, about, &mut self.told)
     }
 
     // Puts a line that the grammar accepts to the builder.
@@ -320,6 +316,24 @@ impl TakesLines for TableSurvey {
         };
         tell(fault, About::Nothing, &mut self.told)
     }
+}
+
+// Tells a line that the grammar refuses, and how it is written.
+fn tell_refused(
+    line: &Line,
+    fault: SyntaxFault,
+    about: About,
+    told: &mut Collected,
+) -> Result<(), AllocError>
+    ensures { OnOk result (Tells told.old.told.faults.items told.new.told.faults.items
+        (load_fault (record { line = line.now.number; cause = cause.Syntax fault }) ∷ [])) }
+{
+    let said = operand_advice(line, fault.number());
+    let fault = LoadFault {
+        line: line.number,
+        cause: LoadCause::Syntax(fault),
+    };
+    told.tell_saying(fault.line, fault.line, Fault::Load(fault), about, said)
 }
 
 // Tells a fault of the table.

@@ -33,7 +33,8 @@ const READ_FAULT: u8 = 67;
 // The last number of the faults of lines, which are about no identifier.
 const LAST_OF_LINES: u8 = 12;
 
-// The numbers of the faults of a target that isn't placed, and of a section that isn't there. No survey looks for a name that is near.
+// The numbers of the faults of a target that isn't placed, and of a section that isn't there. A survey looks for names that are near to
+// those of its first faults alone.
 const TARGET_NOT_PLACED: u8 = 50;
 
 const NO_SUCH_SECTION: u8 = 52;

@@ -8,8 +8,8 @@ use Rattle.coll_surveys.proofs.delta_surveys.DeltaSurvey.refuse_line.Goals as go
 
 pub returns-clause-told : goal.returns-clause-told
 returns-clause-told c =
-    told_on_ok (faults_told c.args.self.now) c.tell.new.told.told.faults.items (faults_told c.pass_over.new.self) (at_line c.args.line.now.number (fault.Syntax c.args.fault) ∷ [])
-    (passed_faults (table_left c.args.self.now) (block_left c.args.self.now) c.args.opening) c.pass_over.result c.in_ok-tell.ensures c.pass_over.ensures.told
+    told_on_ok (faults_told c.args.self.now) c.tell_refused.new.told.told.faults.items (faults_told c.pass_over.new.self) (at_line c.args.line.now.number (fault.Syntax c.args.fault) ∷ [])
+    (passed_faults (table_left c.args.self.now) (block_left c.args.self.now) c.args.opening) c.pass_over.result c.in_ok-tell_refused.ensures c.pass_over.ensures.told
 
 pub returns-clause-left : goal.returns-clause-left
 returns-clause-left c = c.pass_over.ensures.left
