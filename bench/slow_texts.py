@@ -390,7 +390,7 @@ def beside(program, folder, chosen):
                 for file_name, text in texts.items():
                     with open(f"{folder}/{file_name}", "w", encoding="utf-8") as file:
                         file.write(text)
-                taken.append(time(program, ["review", *(f"{folder}/{file_name}" for file_name in texts)]))
+                taken.append(time(program, ["review", *(f"{folder}/{file_name}" for file_name in texts)], accepted=True))
             met = taken[0] <= times * taken[1]
             print(f"{name}: {taken[0]:.3f} s, and {taken[1]:.3f} s with other words{'' if met else ', TOO SLOW'}", flush=True)
             yield met

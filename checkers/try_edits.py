@@ -8,7 +8,8 @@ side as there are cores and memory, each in a scratch copy of the repository, wh
 that change different functions are tried together, by one check of the modules that they change. What that does not show as refused is
 tried by itself, and over the whole crate where its modules are still proved. What was refused is remembered outside the repository, in
 ~/.cache/collbench/edits (or under XDG_CACHE_HOME), by a hash of the edit, its crate and those below, so a run may be broken off and go on
-later. The status is 1 where an edit was not refused.
+later. An edit that is refused only since a proof names what it takes away shows nothing of a contract: how many these are is told at the
+end, of earlier runs too. The status is 1 where an edit was not refused.
 """
 
 import glob
@@ -170,7 +171,7 @@ class Run:
         for crate, edits in untried.items():
             for batch in batches(edits, f"{ROOT}/crates/{crate}", MOST):
                 self.left.put((crate, batch))
-        self.count, self.refused, self.failed = sum(map(len, untried.values())), 0, 0
+        self.count, self.refused, self.by_name, self.failed = sum(map(len, untried.values())), 0, 0, 0
         self.writing, self.stopped = threading.Lock(), False
 
     def work(self, room):
@@ -204,9 +205,10 @@ class Run:
         with self.writing:
             if refused:
                 self.refused += 1
+                self.by_name += refused == REFUSED_BY_NAME
                 os.makedirs(MEMORY, exist_ok=True)
                 with open(memory, "w", encoding="utf-8") as file:
-                    file.write(f"{name}\n")
+                    file.write(f"{name}: {refused}\n")
             else:
                 self.failed += 1
             tried = self.refused + self.failed
@@ -227,6 +229,12 @@ class Run:
                     it.join()
 
 
+def was_by_name(memory):
+    """Whether an edit was refused in an earlier run only since a proof names what it takes away."""
+    with open(memory, encoding="utf-8") as file:
+        return REFUSED_BY_NAME in file.read()
+
+
 def interrupted(*_):
     raise KeyboardInterrupt
 
@@ -237,12 +245,13 @@ def main(names):
         print(f"no crate: {' '.join(sorted(set(names) - set(below)))}")
         return 2
     version = subprocess.run(["rt", "version"], capture_output=True, text=True, check=True).stdout
-    sum_of, untried, earlier = sums(below), {}, 0
+    sum_of, untried, earlier, by_name = sums(below), {}, 0, 0
     for crate in below:
         for edit in edits_of(crate) if not names or crate in names else []:
             memory = remembered(edit, crate, below[crate], sum_of, version)
             if os.path.exists(memory):
                 earlier += 1
+                by_name += was_by_name(memory)
             else:
                 untried.setdefault(crate, {})[edit] = memory
     run = Run(untried)
@@ -255,7 +264,8 @@ def main(names):
     except KeyboardInterrupt:
         print("broken off: the next run goes on from here")
     left = run.count - run.refused - run.failed
-    print(f"{run.refused} refused, {earlier} were refused in earlier runs, {run.failed} not refused, {left} not tried")
+    print(f"{run.refused} refused, {earlier} were refused in earlier runs, {run.failed} not refused, {left} not tried; "
+          f"of those refused {by_name + run.by_name} only since a proof names what they take away")
     return 1 if run.failed or left else 0
 
 
