@@ -9,7 +9,7 @@
 ghost use Rattle.coll_lex.specs.Names.{AreTokens};
 
 use coll_advice::is_near;
-use coll_findings::{ForeignWord, foreign_word, operand_advice};
+use coll_findings::{ForeignWord, advice_on_operands, foreign_word};
 use coll_lex::{LexFault, Lexer, Line, TextBuf, Token};
 use coll_requests::RequestFault;
 use coll_syntax::{DeltaLine, MOST_BLOCK_LINES, SyntaxFault, is_word, parse_delta_line};
@@ -127,7 +127,7 @@ impl TypedLines {
                     self.name = bare_name(table, &line);
                 }
                 if let TypedLine::Fault(number) = self.last {
-                    self.written = operand_advice(&line, number);
+                    self.written = advice_on_operands(&line, number);
                 }
                 drop(line);
             }

@@ -29,7 +29,7 @@ pub use findings::{About, FoundFault};
 pub use first_weights::{first_weight, is_misplaced, lead_of, weighs_as};
 pub use foreign_words::{ForeignWord, foreign_word};
 pub use line_surveys::{Opening, TakesLines, first_line, survey_keywords, survey_lines};
-pub use operand_advice::operand_advice;
+pub use operand_advice::advice_on_operands;
 pub use subjects::{about_found, about_id, refused_subject, table_subject};
 pub use unchanged::{changed_nothing, changes_nothing};
 pub use unplaced::{Declarations, DeclaredName};

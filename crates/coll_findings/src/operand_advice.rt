@@ -53,7 +53,7 @@ const SPELLED: &[(&str, &str)] = &[
 ];
 
 /// How a line is written that is refused with this number, where that says more than the number.
-pub fn operand_advice(line: &Line, number: u8) -> Option<&'static str> {
+pub fn advice_on_operands(line: &Line, number: u8) -> Option<&'static str> {
     if !matches!(number, MISSING_OPERAND | EXTRA_OPERAND | BAD_OPERAND) {
         return None;
     }

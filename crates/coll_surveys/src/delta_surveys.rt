@@ -27,7 +27,7 @@ use coll_advice::{Found, faults_of};
 use coll_faults::Fault;
 use coll_findings::{
     About, Collected, Declarations, DeclaredName, Opening, Surveyed, TakesLines, Warning,
-    about_found, changed_nothing, is_misplaced, operand_advice, refused_subject, survey_lines,
+    about_found, advice_on_operands, changed_nothing, is_misplaced, refused_subject, survey_lines,
 };
 use coll_lex::{EarlyEnd, LexFault, Line, TextBuf};
 use coll_lookups::HashKeys;
@@ -495,7 +495,7 @@ fn tell_refused(
     ensures { OnOk result (Tells told.old.told.faults.items told.new.told.faults.items
         (at_line line.now.number (refused.Syntax fault) ∷ [])) }
 {
-    let said = operand_advice(line, fault.number());
+    let said = advice_on_operands(line, fault.number());
     told.tell_saying(line.number, line.number, Fault::Syntax(fault), about, said)
 }
 

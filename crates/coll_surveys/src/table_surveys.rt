@@ -28,7 +28,7 @@ use crate::table_weights::survey_weights;
 use coll_faults::Fault;
 use coll_findings::{
     About, Collected, Declarations, DeclaredName, Opening, Surveyed, TakesLines, Warning,
-    operand_advice, refused_subject, survey_lines, table_subject,
+    advice_on_operands, refused_subject, survey_lines, table_subject,
 };
 use coll_lex::{LexFault, Line};
 use coll_lookups::HashKeys;
@@ -328,7 +328,7 @@ fn tell_refused(
     ensures { OnOk result (Tells told.old.told.faults.items told.new.told.faults.items
         (load_fault (record { line = line.now.number; cause = cause.Syntax fault }) ∷ [])) }
 {
-    let said = operand_advice(line, fault.number());
+    let said = advice_on_operands(line, fault.number());
     let fault = LoadFault {
         line: line.number,
         cause: LoadCause::Syntax(fault),
