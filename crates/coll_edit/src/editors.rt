@@ -34,9 +34,7 @@ use crate::changes::{
 };
 use crate::copies::copied_statement;
 use crate::devices::OpensFiles;
-use crate::messages::{
-    Hint, Origin, hint_for, hint_of_help, tell_refusal, tell_unwritten, tell_words,
-};
+use crate::messages::{Hint, Origin, hint_for, tell_refusal, tell_unwritten, tell_words};
 use crate::notes::{UNCHANGED, UNENDED, tell_notes};
 use crate::own_lines::{OwnLine, own_line};
 use crate::stored::Stored;
@@ -513,7 +511,8 @@ impl Editor {
         };
         let (origin, hint) = match own {
             OwnLine::Show(id) => (Origin::Id(id), Hint::Nothing),
-            OwnLine::HelpNumber(text) => (Origin::Here, hint_of_help(text.get())),
+            OwnLine::HelpNumber(text) if is_number(text.get()) => (Origin::Here, Hint::NoFault),
+            OwnLine::HelpNumber(_) => (Origin::Here, Hint::NoNumber),
             OwnLine::Wrong(_) => (Origin::Here, hint_for(&self.typed, number)),
             _ => (Origin::Here, Hint::Nothing),
         };
@@ -589,6 +588,11 @@ impl TakesStatements for Editor {
     } };
 
     ghost use Rattle.std.proofs.Common.{refl, sym, append-nil};
+}
+
+// Whether a text is a number.
+fn is_number(text: &str) -> bool {
+    text.parse::<u32>().is_ok()
 }
 
 // Lack of memory at a line of an input.

@@ -163,14 +163,6 @@ pub(crate) fn hint_for(typed: &TypedLines, number: u8) -> Hint<'_> {
     }
 }
 
-/// What to do about `:help` behind which this stands, where no fault has that number.
-pub(crate) fn hint_of_help(text: &str) -> Hint<'_> {
-    match text.parse::<u32>() {
-        Ok(_) => Hint::NoFault,
-        Err(_) => Hint::NoNumber,
-    }
-}
-
 // What to do about such a refusal by the names of the line, or since it is a command.
 fn hint_by_words(typed: &TypedLines, number: u8) -> Hint<'_> {
     match typed.name() {
