@@ -83,6 +83,11 @@ fn write_several<W: Sink>(file: &str, firsts: &FirstLines, out: &mut W) -> Resul
         &[
             Piece::Bytes(file.as_bytes()),
             Piece::Bytes(b": behind a character: "),
+        ],
+    )?;
+    write_pieces(
+        out,
+        &[
             Piece::Bytes(count.as_slice()),
             Piece::Bytes(b" symbols, as"),
         ],
