@@ -77,21 +77,7 @@ pub(crate) fn tell_symbols<W: Sink>(alloc: Global, table: &Table, file: &str, ou
 
 // Writes how many symbols stand behind a character, and the first of them.
 fn write_several<W: Sink>(file: &str, firsts: &FirstLines, out: &mut W) -> Result<(), WriteStop> {
-    let count = with_commas(firsts.lines);
-    write_pieces(
-        out,
-        &[
-            Piece::Bytes(file.as_bytes()),
-            Piece::Bytes(b": behind a character: "),
-        ],
-    )?;
-    write_pieces(
-        out,
-        &[
-            Piece::Bytes(count.as_slice()),
-            Piece::Bytes(b" symbols, as"),
-        ],
-    )?;
+    write_count(file, firsts.lines, out)?;
     for line in firsts.kept.as_slice().split(is_line_feed) {
         if let Some(symbol) = line.strip_prefix(BEFORE_SYMBOL) {
             write_pieces(out, &[Piece::Bytes(b" "), Piece::Bytes(symbol)])?;
@@ -103,6 +89,20 @@ fn write_several<W: Sink>(file: &str, firsts: &FirstLines, out: &mut W) -> Resul
         b"\n"
     };
     write_pieces(out, &[Piece::Bytes(end)])
+}
+
+// Writes that so many symbols stand behind a character.
+fn write_count<W: Sink>(file: &str, count: u32, out: &mut W) -> Result<(), WriteStop> {
+    let number = with_commas(count);
+    write_pieces(
+        out,
+        &[
+            Piece::Bytes(file.as_bytes()),
+            Piece::Bytes(b": behind a character: "),
+            Piece::Bytes(number.as_slice()),
+            Piece::Bytes(b" symbols, as"),
+        ],
+    )
 }
 
 // Whether a byte is a line feed.
