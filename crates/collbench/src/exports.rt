@@ -5,7 +5,6 @@
 
 use coll_import::write_symbols_behind;
 use coll_lex::{Counted, Sink, WriteStop};
-use coll_lint::with_commas;
 use coll_table::Table;
 use coll_texts::{Piece, write_pieces};
 use std::alloc::Global;
@@ -77,7 +76,15 @@ pub(crate) fn tell_symbols<W: Sink>(alloc: Global, table: &Table, file: &str, ou
 
 // Writes how many symbols stand behind a character, and the first of them.
 fn write_several<W: Sink>(file: &str, firsts: &FirstLines, out: &mut W) -> Result<(), WriteStop> {
-    write_count(file, firsts.lines, out)?;
+    write_pieces(
+        out,
+        &[
+            Piece::Bytes(file.as_bytes()),
+            Piece::Bytes(b": behind a character: "),
+            Piece::Number(u64::from(firsts.lines)),
+            Piece::Bytes(b" symbols, as"),
+        ],
+    )?;
     for line in firsts.kept.as_slice().split(is_line_feed) {
         if let Some(symbol) = line.strip_prefix(BEFORE_SYMBOL) {
             write_pieces(out, &[Piece::Bytes(b" "), Piece::Bytes(symbol)])?;
@@ -89,20 +96,6 @@ fn write_several<W: Sink>(file: &str, firsts: &FirstLines, out: &mut W) -> Resul
         b"\n"
     };
     write_pieces(out, &[Piece::Bytes(end)])
-}
-
-// Writes that so many symbols stand behind a character.
-fn write_count<W: Sink>(file: &str, count: u32, out: &mut W) -> Result<(), WriteStop> {
-    let number = with_commas(count);
-    write_pieces(
-        out,
-        &[
-            Piece::Bytes(file.as_bytes()),
-            Piece::Bytes(b": behind a character: "),
-            Piece::Bytes(number.as_slice()),
-            Piece::Bytes(b" symbols, as"),
-        ],
-    )
 }
 
 // Whether a byte is a line feed.
