@@ -61,7 +61,7 @@ FILE_HAD_MORE = "note: the file that was read or written last has statements tha
 FILE_HAS_MORE = f"{FILE_HAD_MORE} (:write FILE); another :quit leaves it so"
 SOME_UNWRITTEN = "note: 2 statements stand in no file (:write FILE); another :quit drops them"
 UNCHANGED = "note: this changes nothing: the table is so already"
-NO_END = "note: the block before has no reorder-end: it ended where this one begins"
+NO_END = "note: the block before has no reorder-end: it ended where this one begins, and the reply is its own"
 # Each session: the words behind the program, the steps, what stands on the screen at the end, and the files that are there then.
 SESSIONS = [
     (

@@ -35,7 +35,7 @@ use crate::changes::{
 use crate::copies::copied_statement;
 use crate::devices::OpensFiles;
 use crate::messages::{Hint, Origin, hint_for, tell_refusal, tell_unwritten, tell_words};
-use crate::notes::{UNCHANGED, UNENDED, tell_notes};
+use crate::notes::{IDLE, PERCENT, UNCHANGED, UNENDED, tell_notes};
 use crate::own_lines::{OwnLine, own_line};
 use crate::stored::Stored;
 use crate::typed_lines::TypedLines;
@@ -238,7 +238,8 @@ impl Editor {
                 self.lines = self.lines.saturating_add(1);
                 let completes = request.is_some();
                 let served = self.serve_request(line, request, output, messages, files, prompts);
-                self.tell_line(was_open, completes, messages);
+                let is_refused = output.refusal().is_some();
+                self.tell_line(was_open, completes, is_refused, messages);
                 served
             }
             Err(ended) => {
@@ -428,8 +429,15 @@ impl Editor {
         }
     }
 
-    // Tells the fault of the line that was taken where no reply tells it there, and that it ended a block which has no `reorder-end`.
-    fn tell_line<M: Sink>(&mut self, was_open: bool, completes: bool, messages: &mut M)
+    // Tells the fault of the line that was taken where no reply tells it there, and what there is to note of it: that it ended a block
+    // which has no `reorder-end`, begins with `%`, or has no effect.
+    fn tell_line<M: Sink>(
+        &mut self,
+        was_open: bool,
+        completes: bool,
+        is_refused: bool,
+        messages: &mut M,
+    )
         ensures run { run_of self.new ≡ run_of self.old }
         ensures answered { answered_by self.new ≡ answered_by self.old }
     {
@@ -445,6 +453,12 @@ impl Editor {
         }
         if was_open && self.typed.opens() {
             tell_words(messages, UNENDED);
+        }
+        if !is_refused && self.typed.is_with_sign() {
+            tell_words(messages, PERCENT);
+        }
+        if !was_open && self.typed.is_idle() {
+            tell_words(messages, IDLE);
         }
     }
 

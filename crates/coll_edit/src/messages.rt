@@ -168,9 +168,9 @@ fn hint_by_words(typed: &TypedLines, number: u8) -> Hint<'_> {
     match typed.name() {
         Some(name) if number == UNKNOWN_STATEMENT || number == BAD_OPERAND => Hint::Name(name),
         _ if typed.is_command() && is_of_spelling(number) => Hint::Spelling,
-        _ if number == UNKNOWN_STATEMENT => Hint::Unknown,
         _ => match typed.written(number) {
             Some(written) => Hint::Written(written),
+            None if number == UNKNOWN_STATEMENT => Hint::Unknown,
             None => Hint::Nothing,
         },
     }

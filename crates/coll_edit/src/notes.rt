@@ -3,12 +3,13 @@
 //! Nothing of it is a fault, and no reply tells it: it goes to standard error behind the reply, and changes none. An entry may stand
 //! where it doesn't sort (`is_misplaced`): it is told with which weights it does. Where it weighs alike the entry before it but for the
 //! letter, that letter's symbol may be moved as well, which takes all along that weigh as the same; others would turn a letter and what
-//! varies it round. A symbol, which has no weights, is put behind a symbol. A statement may leave the table as it is. And a block that
-//! another one ends has no `reorder-end`, which may have been forgotten.
+//! varies it round. A symbol, which has no weights, is put behind a symbol. A line may give weights for few levels, and weigh as itself at
+//! the others. A statement may leave the table as it is, and `copy` and `script` do. A line may begin with `%`, which begins no comment.
+//! And a block that another one ends has no `reorder-end`, which may have been forgotten.
 
 use crate::messages::tell_words;
 use coll_devices::Sink;
-use coll_findings::{first_weight, is_misplaced, lead_of, weighs_as};
+use coll_findings::{first_weight, is_misplaced, lacks_weights, lead_of, weighs_as};
 use coll_syntax::{Id, OrderLine, Statement, Weight};
 use coll_table::{Entry, Table};
 use coll_texts::{Piece, write_pieces};
@@ -16,11 +17,18 @@ use coll_texts::{Piece, write_pieces};
 // Of so many lines of a block it is told where their entries sort; of more, how many they are.
 const MOST_NOTES: u64 = 5;
 
-/// Tells of a statement that was accepted which entries stand where they don't sort, over the table behind it.
+/// Tells of a statement that was accepted which lines give weights for few levels, and which entries stand where they don't sort, over
+/// the table behind it.
 pub(crate) fn tell_notes<M: Sink>(messages: &mut M, table: &Table, statement: &Statement) {
     match statement {
-        Statement::Block { lines, .. } => tell_lines(messages, table, lines.get()),
+        Statement::Block { lines, .. } => {
+            tell_lacking(messages, table, lines.get());
+            tell_lines(messages, table, lines.get());
+        }
         Statement::Reweight(line) => {
+            if lacks_weights(table, line) {
+                tell_lack(messages, table, None, line);
+            }
             if is_misplaced(table, line) {
                 tell_misplaced(messages, table, None, &line.id);
             }
@@ -28,6 +36,44 @@ pub(crate) fn tell_notes<M: Sink>(messages: &mut M, table: &Table, statement: &S
         _ => return,
     }
     let _ = messages.flush();
+}
+
+// Tells which lines of a block give weights for few levels.
+fn tell_lacking<M: Sink>(messages: &mut M, table: &Table, lines: &[OrderLine]) {
+    let mut lacking: u64 = 0;
+    for (place, line) in lines.iter().enumerate() {
+        if lacks_weights(table, line) {
+            lacking = lacking.saturating_add(1);
+            if lacking <= MOST_NOTES {
+                tell_lack(messages, table, Some(place as u64), line);
+            }
+        }
+    }
+    tell_others(messages, lacking.saturating_sub(MOST_NOTES));
+}
+
+// Tells that a line, behind so many others of its block if it stands in one, gives weights for few of the levels.
+fn tell_lack<'a, M: Sink>(
+    messages: &mut M,
+    table: &Table,
+    lines_before: Option<u64>,
+    line: &'a OrderLine,
+) {
+    let Some(weights) = &line.weights else {
+        return;
+    };
+    tell_line(messages, lines_before);
+    let _ = write_pieces(
+        messages,
+        &[
+            Piece::Id(&line.id),
+            Piece::Bytes(b" has "),
+            Piece::Number(weights.get().len() as u64),
+            Piece::Bytes(b" of "),
+            Piece::Number(table.rules().len() as u64),
+            Piece::Bytes(b" weights, and weighs as itself at the other levels\n"),
+        ],
+    );
 }
 
 // Tells which lines of a block have their entries stand where they don't sort.
@@ -232,7 +278,15 @@ fn tell_others<M: Sink>(messages: &mut M, others: u64) {
 
 /// What is told of a block that ended without `reorder-end`, since another one begins.
 pub(crate) const UNENDED: &[u8] =
-    b"note: the block before has no reorder-end: it ended where this one begins\n";
+    b"note: the block before has no reorder-end: it ended where this one begins, and the reply is its own\n";
+
+/// What is told of an order line that begins with `%`, in the words of a lint.
+pub(crate) const PERCENT: &[u8] =
+    b"note: % begins no comment here, but is a character; behind a line comment_char % it does\n";
+
+/// What is told of a line that has no effect.
+pub(crate) const IDLE: &[u8] =
+    b"note: this line has no effect here: a source with copy goes through collbench import or import-delta\n";
 
 /// What is told of a statement that leaves the table as it is, in the words of a lint.
 pub(crate) const UNCHANGED: &[u8] = b"note: this changes nothing: the table is so already\n";

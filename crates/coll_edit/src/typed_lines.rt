@@ -27,6 +27,8 @@ enum TypedLine {
     Command,
     // An order line.
     Order,
+    // `copy` or `script`, which no block takes.
+    Idle,
     // A line that spoils a block, by the number of its fault.
     Fault(u8),
 }
@@ -162,6 +164,16 @@ impl TypedLines {
         matches!(&self.last, TypedLine::Command)
     }
 
+    /// Whether the last line is an order line that begins with `%`, as one that is meant as a comment.
+    pub fn is_with_sign(&self) -> bool {
+        matches!((self.last, self.wish), (TypedLine::Order, Wish::Comment))
+    }
+
+    /// Whether the last line has no effect outside of a block.
+    pub fn is_idle(&self) -> bool {
+        matches!(&self.last, TypedLine::Idle)
+    }
+
     /// Whether the last line begins a block.
     pub fn opens(&self) -> bool {
         matches!(&self.last, TypedLine::Opening)
@@ -198,6 +210,7 @@ impl TypedLines {
     fn untold_within(&mut self, line: TypedLine) -> Option<LineFault> {
         let number = match line {
             TypedLine::Nothing | TypedLine::Opening | TypedLine::Command => return None,
+            TypedLine::Idle => Some(RequestFault::BlockOpen.number()),
             TypedLine::Order if self.first.is_some() || self.lines < MOST_BLOCK_LINES => None,
             TypedLine::Order => Some(SyntaxFault::BlockTooLong.number()),
             TypedLine::Fault(number) => Some(number),
@@ -230,6 +243,7 @@ fn line_of(alloc: Global, line: &Line) -> TypedLine
                 DeltaLine::Order(_) => TypedLine::Order,
                 DeltaLine::ReorderAfter(_) => TypedLine::Opening,
                 DeltaLine::ReorderEnd => TypedLine::Nothing,
+                DeltaLine::Copy | DeltaLine::Script => TypedLine::Idle,
                 _ => TypedLine::Fault(RequestFault::BlockOpen.number()),
             };
             drop(read);

@@ -29,4 +29,8 @@ Warns old new warning.ScriptWithoutEffect one = AddsOne old.scripts new.scripts 
 Warns old new warning.SymbolNeverPlaced one = AddsOne old.symbols new.symbols one × (new ≡ record old { symbols = new.symbols })
 Warns old new warning.ElementNeverPlaced one = AddsOne old.elements new.elements one × (new ≡ record old { elements = new.elements })
 Warns old new warning.ChangesNothing one = AddsOne old.unchanged new.unchanged one × (new ≡ record old { unchanged = new.unchanged })
+Warns old new warning.PercentSign one = AddsOne old.percents new.percents one × (new ≡ record old { percents = new.percents })
+Warns old new warning.LacksWeights one = AddsOne old.lacking new.lacking one × (new ≡ record old { lacking = new.lacking })
 Warns old new warning.SortsElsewhere one = AddsOne old.elsewhere new.elsewhere one × (new ≡ record old { elsewhere = new.elsewhere })
+Warns old new warning.SymbolElsewhere one =
+    AddsOne old.symbols_elsewhere new.symbols_elsewhere one × (new ≡ record old { symbols_elsewhere = new.symbols_elsewhere })

@@ -1,4 +1,5 @@
 pub mod FirstWeights
 pub mod GatheredWarnings
+pub mod MissingWeights
 pub mod SurveyedLines
 pub mod ToldFaults

@@ -8,7 +8,7 @@
 //!   refused; `subjects`: what a fault is about;
 //! - `warnings`: what a text says to no purpose, by kinds (`GatheredWarnings`); `unplaced`: what is declared and never placed;
 //!   `first_weights`: what an entry weighs as at the first level, and what doesn't sort where it stands (`FirstWeights`); `unchanged`:
-//!   statements that leave a table as it is;
+//!   statements that leave a table as it is; `missing_weights`: lines that give weights for few levels;
 //! - `collecting`: what is told, as it is gathered;
 //! - `line_surveys`: the lines of a text, handed on one after another.
 #![tactic(auto)]
@@ -18,6 +18,7 @@ mod findings;
 mod first_weights;
 mod foreign_words;
 mod line_surveys;
+mod missing_weights;
 mod operand_advice;
 mod subjects;
 mod unchanged;
@@ -29,6 +30,7 @@ pub use findings::{About, FoundFault};
 pub use first_weights::{first_weight, is_misplaced, lead_of, weighs_as};
 pub use foreign_words::{ForeignWord, foreign_word};
 pub use line_surveys::{Opening, TakesLines, first_line, survey_keywords, survey_lines};
+pub use missing_weights::lacks_weights;
 pub use operand_advice::advice_on_operands;
 pub use subjects::{about_found, about_id, refused_subject, table_subject};
 pub use unchanged::{changed_nothing, changes_nothing};

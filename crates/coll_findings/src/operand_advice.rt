@@ -1,11 +1,16 @@
-//! How a line is spelled that the grammar refuses for its operands, where its first word shows what it is.
+//! How a line is spelled that the grammar refuses, where its words show what it is.
 //!
-//! What to do by the number of such a fault is said of all lines; of a line with a keyword it is said here how that line is written. A
-//! further keyword is a row here.
+//! What to do by the number of such a fault is said of all lines. Of a line with a keyword it is said here how that line is written; of
+//! `%` and `#`, that they begin no comment; of letters that begin a line as a keyword does, how they are declared; and of a word among
+//! weights, that a name has brackets. A further keyword is a row here.
 
+use crate::foreign_words::foreign_word;
+use coll_advice::is_near;
 use coll_lex::{Line, Token};
 
-// The numbers of an operand that is missing, of one too many, and of one of the wrong kind.
+// The numbers of a line that nothing begins, of an operand that is missing, of one too many, and of one of the wrong kind.
+const UNKNOWN_STATEMENT: u8 = 20;
+
 const MISSING_OPERAND: u8 = 21;
 
 const EXTRA_OPERAND: u8 = 22;
@@ -14,6 +19,27 @@ const BAD_OPERAND: u8 = 29;
 
 // What to write in place of a weight that is a word.
 const NAMED: &str = "write a name between < and >, and part weights by ;";
+
+// What is said of a word that is near to the weight which ignores.
+const IGNORE_MEANT: &str = "IGNORE is meant?";
+
+// What to write in place of letters that begin a line.
+const DECLARED: &str =
+    "write a name between < and >; letters that sort as one are declared by collating-element <X> from \"ab\", and placed as <X>";
+
+// What is said of a line that begins with `%`, and of one with `#`.
+const NO_COMMENT: &str = "% begins no comment here; behind a line comment_char % it does";
+
+const NO_LONGER: &str =
+    "# begins no comment here, since a line comment_char chose another character";
+
+// Weights that are words.
+const IGNORED: &str = "IGNORE";
+
+const UNDEFINED: &str = "UNDEFINED";
+
+// Most letters of a word that is no keyword for its length.
+const MOST_LETTERS: usize = 3;
 
 // Each keyword with operands of its own, and how its line is written.
 const SPELLED: &[(&str, &str)] = &[
@@ -54,27 +80,77 @@ const SPELLED: &[(&str, &str)] = &[
 
 /// How a line is written that is refused with this number, where that says more than the number.
 pub fn advice_on_operands(line: &Line, number: u8) -> Option<&'static str> {
-    if !matches!(number, MISSING_OPERAND | EXTRA_OPERAND | BAD_OPERAND) {
-        return None;
-    }
     let (first, operands) = line.tokens.get().split_first()?;
-    if let Token::Word(word) = first {
-        for (keyword, written) in SPELLED {
-            if *keyword == word.get() {
-                return Some(*written);
-            }
-        }
+    match number {
+        UNKNOWN_STATEMENT => advice_on_first(first),
+        MISSING_OPERAND => written_with(first),
+        EXTRA_OPERAND => written_with(first).or(advice_on_sign(first)),
+        BAD_OPERAND => written_with(first)
+            .or(advice_on_sign(first))
+            .or(advice_on_weights(operands)),
+        _ => None,
     }
-    if number == BAD_OPERAND && operands.iter().any(is_long_word) {
-        return Some(NAMED);
+}
+
+// How a line is written that begins with this keyword, if it is one.
+fn written_with(first: &Token) -> Option<&'static str> {
+    let Token::Word(word) = first else {
+        return None;
+    };
+    for (keyword, written) in SPELLED {
+        if *keyword == word.get() {
+            return Some(*written);
+        }
     }
     None
 }
 
-// Whether a token is a word of several characters.
-fn is_long_word(token: &Token) -> bool {
-    match token {
-        Token::Word(word) => word.get().chars().nth(1).is_some(),
-        _ => false,
+// What is said of a line that begins with a sign, as one that is meant as a comment.
+fn advice_on_sign(first: &Token) -> Option<&'static str> {
+    match first {
+        Token::Word(word) if word.get().starts_with('%') => Some(NO_COMMENT),
+        Token::Word(word) if word.get().starts_with('#') => Some(NO_LONGER),
+        _ => None,
     }
+}
+
+// What is said of a first word that begins no line: of a comment, and of letters.
+fn advice_on_first(first: &Token) -> Option<&'static str> {
+    match first {
+        Token::Word(word) if are_letters(word.get().as_bytes()) => match foreign_word(first) {
+            Some(_) => None,
+            None => Some(DECLARED),
+        },
+        _ => advice_on_sign(first),
+    }
+}
+
+// Whether a word is of letters that no keyword is: a few, or one of them beyond those of keywords.
+fn are_letters(word: &[u8]) -> bool {
+    !word.iter().all(u8::is_ascii)
+        || (word.len() <= MOST_LETTERS && word.iter().all(u8::is_ascii_alphabetic))
+}
+
+// What is said of the first word among weights that is of several characters, and doesn't ignore.
+fn advice_on_weights(operands: &[Token]) -> Option<&'static str> {
+    for token in operands {
+        match token {
+            Token::Word(word) if word.get() != IGNORED && word.get().chars().nth(1).is_some() => {
+                return advice_on_word(word.get());
+            }
+            _ => {}
+        }
+    }
+    None
+}
+
+// What is said of a word among weights: nothing of a range, and of what stands for all that is undefined.
+fn advice_on_word(word: &str) -> Option<&'static str> {
+    if word.starts_with('.') || word == UNDEFINED {
+        return None;
+    }
+    if is_near(IGNORED, word) {
+        return Some(IGNORE_MEANT);
+    }
+    Some(NAMED)
 }

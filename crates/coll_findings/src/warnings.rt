@@ -27,8 +27,14 @@ pub enum Warning {
     ElementNeverPlaced,
     /// A statement leaves the table as it was.
     ChangesNothing,
+    /// An order line begins with `%`, which begins no comment there.
+    PercentSign,
+    /// An order line gives weights, and none for more levels than the last (`lacks_weights`).
+    LacksWeights,
     /// A line of a block has its entry stand where it seems to sort and doesn't (`is_misplaced`).
     SortsElsewhere,
+    /// So it is with a line of a symbol.
+    SymbolElsewhere,
 }
 
 /// A warning: where it belongs, and what it is about.
@@ -104,8 +110,14 @@ pub struct Warnings {
     pub elements: WarnedKind,
     /// Statements that leave the table as it was.
     pub unchanged: WarnedKind,
+    /// Order lines that begin with `%`.
+    pub percents: WarnedKind,
+    /// Order lines that give weights, and none for more levels than the last.
+    pub lacking: WarnedKind,
     /// Lines of blocks whose entries don't sort where they stand.
     pub elsewhere: WarnedKind,
+    /// Lines of blocks whose symbols don't.
+    pub symbols_elsewhere: WarnedKind,
     /// Whether a byte order mark stands at the beginning of the table that a delta file is for.
     pub table_mark: bool,
 }
@@ -121,7 +133,10 @@ impl Drop for Warnings {
             symbols,
             elements,
             unchanged,
+            percents,
+            lacking,
             elsewhere,
+            symbols_elsewhere,
             table_mark: _,
         } = self;
         drop(copies);
@@ -129,7 +144,10 @@ impl Drop for Warnings {
         drop(symbols);
         drop(elements);
         drop(unchanged);
+        drop(percents);
+        drop(lacking);
         drop(elsewhere);
+        drop(symbols_elsewhere);
     }
 }
 
@@ -144,7 +162,10 @@ impl Warnings {
             symbols: WarnedKind::none(alloc),
             elements: WarnedKind::none(alloc),
             unchanged: WarnedKind::none(alloc),
+            percents: WarnedKind::none(alloc),
+            lacking: WarnedKind::none(alloc),
             elsewhere: WarnedKind::none(alloc),
+            symbols_elsewhere: WarnedKind::none(alloc),
             table_mark: false,
         }
     }
@@ -164,7 +185,10 @@ impl Warnings {
             Warning::SymbolNeverPlaced => self.symbols.add(line, id),
             Warning::ElementNeverPlaced => self.elements.add(line, id),
             Warning::ChangesNothing => self.unchanged.add(line, id),
+            Warning::PercentSign => self.percents.add(line, id),
+            Warning::LacksWeights => self.lacking.add(line, id),
             Warning::SortsElsewhere => self.elsewhere.add(line, id),
+            Warning::SymbolElsewhere => self.symbols_elsewhere.add(line, id),
         }
     }
 }

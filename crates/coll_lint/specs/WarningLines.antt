@@ -21,8 +21,12 @@ alone_told warning.ScriptWithoutEffect = codes "script has no effect: leave it o
 alone_told warning.SymbolNeverPlaced = codes " is declared and never placed: place it, or drop its declaration\n"
 alone_told warning.ElementNeverPlaced = codes " is declared and never placed: place it, or drop its declaration\n"
 alone_told warning.ChangesNothing = codes "this changes nothing: the table is so already\n"
+alone_told warning.PercentSign = codes "% begins no comment here, but is a character; behind a line comment_char % it does\n"
+alone_told warning.LacksWeights = codes " lacks weights for more levels than the last, and weighs as itself there: give it one for each level\n"
 alone_told warning.SortsElsewhere =
     codes " doesn't sort where it stands: its first weight is neither that of the entry before it nor directly behind that, so give it weights that begin so, or put the symbol that it weighs as behind that of the entry before\n"
+alone_told warning.SymbolElsewhere =
+    codes " doesn't sort where it stands: put it behind the symbol that the entry before it weighs as\n"
 
 -- what several warnings of a kind say, before how many they are
 abbrev pub several_told : Warning → List ℕ
@@ -31,8 +35,13 @@ several_told warning.ScriptWithoutEffect = codes "script has no effect, leave it
 several_told warning.SymbolNeverPlaced = codes "declared and never placed: "
 several_told warning.ElementNeverPlaced = codes "declared and never placed: "
 several_told warning.ChangesNothing = codes "this changes nothing, the table is so already: "
+several_told warning.PercentSign = codes "% begins no comment here, but is a character, behind a line comment_char % it does: "
+several_told warning.LacksWeights =
+    codes "weights lack for more levels than the last, and the entries weigh as themselves there, give them one for each level: "
 several_told warning.SortsElsewhere =
     codes "entries don't sort where they stand, as their first weights are neither those of the entries before them nor directly behind those, so give them weights that begin so, or put the symbols that they weigh as behind those of the entries before: "
+several_told warning.SymbolElsewhere =
+    codes "symbols don't sort where they stand, put each behind the symbol that the entry before it weighs as: "
 
 -- what is counted, and what leads to the first of them
 abbrev pub noun_told : Warning → List ℕ
@@ -41,7 +50,10 @@ noun_told warning.ScriptWithoutEffect = codes " times, in lines"
 noun_told warning.SymbolNeverPlaced = codes " symbols, as"
 noun_told warning.ElementNeverPlaced = codes " elements, as"
 noun_told warning.ChangesNothing = codes " statements, in lines"
+noun_told warning.PercentSign = codes " times, in lines"
+noun_told warning.LacksWeights = codes " lines, as"
 noun_told warning.SortsElsewhere = codes " lines, as"
+noun_told warning.SymbolElsewhere = codes " lines, as"
 
 -- an identifier, if there is one
 abbrev pub id_told : Option Id → List ℕ
@@ -60,7 +72,10 @@ counts_lines warning.ScriptWithoutEffect = false
 counts_lines warning.SymbolNeverPlaced = false
 counts_lines warning.ElementNeverPlaced = false
 counts_lines warning.ChangesNothing = false
+counts_lines warning.PercentSign = false
+counts_lines warning.LacksWeights = true
 counts_lines warning.SortsElsewhere = true
+counts_lines warning.SymbolElsewhere = true
 
 -- what stands for one of several of a kind: the identifier that it is about, with its line where lines are counted, or else its line
 abbrev pub one_of : Warning → (line : ℕ) → Option Id → List ℕ
@@ -117,7 +132,10 @@ warnings_text names warnings =
     ∷ kind_line name warning.SymbolNeverPlaced warnings.symbols
     ∷ kind_line name warning.ElementNeverPlaced warnings.elements
     ∷ kind_line name warning.ChangesNothing warnings.unchanged
+    ∷ kind_line name warning.PercentSign warnings.percents
+    ∷ kind_line name warning.LacksWeights warnings.lacking
     ∷ kind_line name warning.SortsElsewhere warnings.elsewhere
+    ∷ kind_line name warning.SymbolElsewhere warnings.symbols_elsewhere
     ∷ mark_line (named names 0) warnings.table_mark
     ∷ []
     )

@@ -44,7 +44,10 @@ pub(crate) fn write_warnings<W: Sink>(
             KindLine::Kind(name, Warning::SymbolNeverPlaced, &warnings.symbols),
             KindLine::Kind(name, Warning::ElementNeverPlaced, &warnings.elements),
             KindLine::Kind(name, Warning::ChangesNothing, &warnings.unchanged),
+            KindLine::Kind(name, Warning::PercentSign, &warnings.percents),
+            KindLine::Kind(name, Warning::LacksWeights, &warnings.lacking),
             KindLine::Kind(name, Warning::SortsElsewhere, &warnings.elsewhere),
+            KindLine::Kind(name, Warning::SymbolElsewhere, &warnings.symbols_elsewhere),
             KindLine::Mark(name_of(names, 0), warnings.table_mark),
         ],
         out,
@@ -237,12 +240,13 @@ fn counts_lines(warning: Warning) -> bool
     ensures { result ≡ counts_lines warning }
 {
     match warning {
-        Warning::SortsElsewhere => true,
+        Warning::LacksWeights | Warning::SortsElsewhere | Warning::SymbolElsewhere => true,
         Warning::CopyWithoutEffect
         | Warning::ScriptWithoutEffect
         | Warning::SymbolNeverPlaced
         | Warning::ElementNeverPlaced
-        | Warning::ChangesNothing => false,
+        | Warning::ChangesNothing
+        | Warning::PercentSign => false,
     }
 }
 
@@ -270,8 +274,17 @@ fn alone(warning: Warning) -> &'static [u8]
             b" is declared and never placed: place it, or drop its declaration\n"
         }
         Warning::ChangesNothing => b"this changes nothing: the table is so already\n",
+        Warning::PercentSign => {
+            b"% begins no comment here, but is a character; behind a line comment_char % it does\n"
+        }
+        Warning::LacksWeights => {
+            b" lacks weights for more levels than the last, and weighs as itself there: give it one for each level\n"
+        }
         Warning::SortsElsewhere => {
             b" doesn't sort where it stands: its first weight is neither that of the entry before it nor directly behind that, so give it weights that begin so, or put the symbol that it weighs as behind that of the entry before\n"
+        }
+        Warning::SymbolElsewhere => {
+            b" doesn't sort where it stands: put it behind the symbol that the entry before it weighs as\n"
         }
     }
 }
@@ -287,8 +300,17 @@ fn several(warning: Warning) -> &'static [u8]
         Warning::ScriptWithoutEffect => b"script has no effect, leave it out: ",
         Warning::SymbolNeverPlaced | Warning::ElementNeverPlaced => b"declared and never placed: ",
         Warning::ChangesNothing => b"this changes nothing, the table is so already: ",
+        Warning::PercentSign => {
+            b"% begins no comment here, but is a character, behind a line comment_char % it does: "
+        }
+        Warning::LacksWeights => {
+            b"weights lack for more levels than the last, and the entries weigh as themselves there, give them one for each level: "
+        }
         Warning::SortsElsewhere => {
             b"entries don't sort where they stand, as their first weights are neither those of the entries before them nor directly behind those, so give them weights that begin so, or put the symbols that they weigh as behind those of the entries before: "
+        }
+        Warning::SymbolElsewhere => {
+            b"symbols don't sort where they stand, put each behind the symbol that the entry before it weighs as: "
         }
     }
 }
@@ -298,10 +320,12 @@ fn noun(warning: Warning) -> &'static [u8]
     ensures { result.now ≡ noun_told warning }
 {
     match warning {
-        Warning::CopyWithoutEffect | Warning::ScriptWithoutEffect => b" times, in lines",
+        Warning::CopyWithoutEffect | Warning::ScriptWithoutEffect | Warning::PercentSign => {
+            b" times, in lines"
+        }
         Warning::SymbolNeverPlaced => b" symbols, as",
         Warning::ElementNeverPlaced => b" elements, as",
         Warning::ChangesNothing => b" statements, in lines",
-        Warning::SortsElsewhere => b" lines, as",
+        Warning::LacksWeights | Warning::SortsElsewhere | Warning::SymbolElsewhere => b" lines, as",
     }
 }

@@ -27,12 +27,13 @@ use coll_advice::{Found, faults_of};
 use coll_faults::Fault;
 use coll_findings::{
     About, Collected, Declarations, DeclaredName, Opening, Surveyed, TakesLines, Warning,
-    about_found, advice_on_operands, changed_nothing, is_misplaced, refused_subject, survey_lines,
+    about_found, advice_on_operands, changed_nothing, is_misplaced, lacks_weights, refused_subject,
+    survey_lines,
 };
 use coll_lex::{EarlyEnd, LexFault, Line, TextBuf};
 use coll_lookups::HashKeys;
 use coll_requests::DeltaFault;
-use coll_syntax::{DeltaLine, Id, OrderLine, Statement, SyntaxFault, parse_delta_line};
+use coll_syntax::{DeltaLine, Id, OrderLine, Statement, SyntaxFault, is_word, parse_delta_line};
 use coll_table::{Refusal, Table};
 use std::alloc::{AllocError, Global};
 
@@ -460,7 +461,9 @@ impl TakesLines for DeltaSurvey {
         match parse_delta_line(self.alloc, line) {
             Ok(read) => {
                 let ends = ends_category(&read);
+                let warned = warn_of_sign(line, &read, &mut self.told);
                 self.take_read(line.number, read)?;
+                warned?;
                 Ok(ends)
             }
             Err(SyntaxFault::OutOfMemory) => Err(AllocError),
@@ -475,6 +478,18 @@ impl TakesLines for DeltaSurvey {
     fn refuse(&mut self, number: u32, opening: Opening, fault: LexFault) -> Result<(), AllocError> {
         tell(number, Fault::Lex(fault), About::Nothing, &mut self.told)?;
         self.pass_over(number, opening)
+    }
+}
+
+// Warns of an order line that begins with `%`, as one that is meant as a comment.
+fn warn_of_sign(line: &Line, read: &DeltaLine, told: &mut Collected) -> Result<(), AllocError>
+    ensures { told.new.told.faults ≡ told.old.told.faults }
+{
+    match (read, line.tokens.get().first()) {
+        (DeltaLine::Order(_), Some(word)) if is_word(word, "%") => {
+            told.warn(Warning::PercentSign, line.number, None)
+        }
+        _ => Ok(()),
     }
 }
 
@@ -527,7 +542,7 @@ fn tell_found(
     Ok(())
 }
 
-// Warns of what doesn't sort where a statement at this line puts it, or the lines of a block, of which these are the numbers.
+// Warns of the line of a statement, or of those of a block, of which these are the numbers, over the table behind it.
 fn warn_of_moved(
     table: &Table,
     number: u32,
@@ -544,7 +559,8 @@ fn warn_of_moved(
     }
 }
 
-// Warns of the lines of a block, of which these are the numbers, whose entries stand where they don't sort.
+// Warns of the lines of a block, of which these are the numbers, that give weights for few levels, or whose entries stand where they
+// don't sort.
 fn warn_of_lines(
     table: &Table,
     lines: &[OrderLine],
@@ -563,7 +579,7 @@ fn warn_of_lines(
     Ok(())
 }
 
-// Warns of a line with this number whose entry stands where it doesn't sort.
+// Warns of a line with this number that gives weights for few levels, or whose entry stands where it doesn't sort.
 fn warn_of_line(
     table: &Table,
     line: &OrderLine,
@@ -572,10 +588,18 @@ fn warn_of_line(
 ) -> Result<(), AllocError>
     ensures { told.new.told.faults ≡ told.old.told.faults }
 {
-    if is_misplaced(table, line) {
-        told.warn(Warning::SortsElsewhere, number, Some(&line.id))?;
+    if lacks_weights(table, line) {
+        told.warn(Warning::LacksWeights, number, Some(&line.id))?;
     }
-    Ok(())
+    if !is_misplaced(table, line) {
+        return Ok(());
+    }
+    let warning = if table.is_symbol(&line.id) {
+        Warning::SymbolElsewhere
+    } else {
+        Warning::SortsElsewhere
+    };
+    told.warn(warning, number, Some(&line.id))
 }
 
 // Puts what is left of a block to a table. Where that is refused, the block was told already.
