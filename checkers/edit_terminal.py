@@ -52,6 +52,7 @@ KEPT_WEIGHTS = (
     "note: line 1 of the block: <U0041> weighs as <U0061> at the first level, and <U0063> before it as itself: "
     "to sort it here, give it weights that begin with <U0063>, or with a symbol of its own put behind <U0063>"
 )
+NOT_PLACED_TARGET = "50 TargetNotPlaced <BASF>: place the target first, or name one that is placed; is <BASE> meant?"
 C_BACK = "note: taken back: reorder-after <U0061> .. (1 line)"
 C_AGAIN = "note: put again: reorder-after <U0061> .. (1 line)"
 C_WITHDRAWN = "note: withdrawn for good: reorder-after <U0061> .. (1 line)"
@@ -73,7 +74,7 @@ SESSIONS = [
             (":show a", SHOWN + "> "),
             (":words words.txt", "* ac\n* ab\n* c\n* b\n* d\nwords 5\n> "),
             ("reorder-after <U0061>", "block> "),
-            ("<BASF>", "block> "),
+            ("<BASF>", "note: 34 NotDeclared <BASF>: declare it with collating-symbol; is <BASE> meant?\nblock> "),
             ("reorder-end", "refused 34 NotDeclared\nline 1 of the block: 34 NotDeclared <BASF>: declare it with collating-symbol; is <BASE> meant?\n> "),
             ("reorder-after b", "block> "),
             ("d d,d", "line 1 of the block: 29 BadOperand: compare with how the line is spelled: quotes stand around strings alone; weights are parted by ;, and a range (..) has to be written out\nblock> "),
@@ -116,6 +117,27 @@ SESSIONS = [
         ],
         END,
         "\nnote: 2 statements stand in no file, and are lost\n",
+        {},
+    ),
+    # What the reply to a block will say whatever its other lines are.
+    (
+        ["edit", "base.txt"],
+        [
+            ("reorder-after <BASF>", f"note: {NOT_PLACED_TARGET}\nblock> "),
+            ("a <BASE>;<MIM>", "note: 34 NotDeclared <MIM>: declare it with collating-symbol; is <MIN> meant?\nblock> "),
+            ("f <BASE>;f", "block> "),
+            ("reorder-end", f"refused 50 TargetNotPlaced\n{NOT_PLACED_TARGET}\n> "),
+            ("reorder-after f", "note: 50 TargetNotPlaced <U0066>: place the target first, or name one that is placed\nblock> "),
+            ("reorder-after a", "refused 50 TargetNotPlaced\n50 TargetNotPlaced <U0066>: place the target first, or name one that is placed\n"
+             f"{NO_END}\nblock> "),
+            ("<X>", "note: 34 NotDeclared <X>: declare it with collating-symbol\nblock> "),
+            ("c", "block> "),
+            ("<X>", "note: 34 NotDeclared <X>: declare it with collating-symbol\nblock> "),
+            ("reorder-end", "refused 34 NotDeclared\nline 1 of the block: 34 NotDeclared <X>: declare it with collating-symbol\n> "),
+            ("<X>", "refused 34 NotDeclared\n34 NotDeclared <X>: declare it with collating-symbol\n> "),
+        ],
+        END,
+        "\n",
         {},
     ),
     # What is taken back and put again, and which statements stand in no file.

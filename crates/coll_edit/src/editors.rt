@@ -35,7 +35,7 @@ use crate::changes::{
 use crate::copies::copied_statement;
 use crate::devices::OpensFiles;
 use crate::messages::{Hint, Origin, hint_for, tell_refusal, tell_unwritten, tell_words};
-use crate::notes::{IDLE, PERCENT, UNCHANGED, UNENDED, tell_notes};
+use crate::notes::{IDLE, PERCENT, UNCHANGED, UNENDED, UNOPENED, tell_notes};
 use crate::own_lines::{OwnLine, own_line};
 use crate::stored::Stored;
 use crate::typed_lines::TypedLines;
@@ -232,7 +232,7 @@ impl Editor {
         output.forget();
         let was_open = self.run.is_open();
         self.typed
-            .read(self.alloc, self.run.session().table(), line);
+            .read(self.alloc, self.run.session().table(), line, prompts);
         match self.run.take(self.alloc, line, output) {
             Ok(request) => {
                 self.lines = self.lines.saturating_add(1);
@@ -430,7 +430,7 @@ impl Editor {
     }
 
     // Tells the fault of the line that was taken where no reply tells it there, and what there is to note of it: that it ended a block
-    // which has no `reorder-end`, begins with `%`, or has no effect.
+    // which has no `reorder-end`, begins with `%`, or has no effect, or what the reply to its block will say of it.
     fn tell_line<M: Sink>(
         &mut self,
         was_open: bool,
@@ -459,6 +459,24 @@ impl Editor {
         }
         if !was_open && self.typed.is_idle() {
             tell_words(messages, IDLE);
+        }
+        if is_open {
+            self.tell_doubt(messages);
+        }
+    }
+
+    // Tells what the reply to the block that is open will say of the line that was taken.
+    fn tell_doubt<M: Sink>(&self, messages: &mut M) {
+        if let Some(doubt) = self.typed.doubt() {
+            let table = self.run.session().table();
+            tell_words(messages, b"note: ");
+            tell_refusal(
+                messages,
+                table,
+                doubt.number,
+                Origin::Id(&doubt.id),
+                Hint::Nothing,
+            );
         }
     }
 
@@ -500,8 +518,12 @@ impl Editor {
     // Tells what there is to note of the last statement that remains.
     fn tell_accepted<M: Sink>(&self, messages: &mut M) {
         let session = self.run.session();
-        if let Some(statement) = session.remaining(session.remaining_len()) {
-            tell_notes(messages, session.table(), statement);
+        match session.remaining(session.remaining_len()) {
+            Some(Statement::Reweight(_)) if self.typed.is_unopened() => {
+                tell_words(messages, UNOPENED)
+            }
+            Some(statement) => tell_notes(messages, session.table(), statement),
+            None => {}
         }
     }
 

@@ -20,6 +20,7 @@
 mod changes;
 mod copies;
 mod devices;
+mod doubts;
 mod editors;
 mod messages;
 mod notes;

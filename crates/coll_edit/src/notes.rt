@@ -5,7 +5,8 @@
 //! letter, that letter's symbol may be moved as well, which takes all along that weigh as the same; others would turn a letter and what
 //! varies it round. A symbol, which has no weights, is put behind a symbol. A line may give weights for few levels, and weigh as itself at
 //! the others. A statement may leave the table as it is, and `copy` and `script` do. A line may begin with `%`, which begins no comment.
-//! And a block that another one ends has no `reorder-end`, which may have been forgotten.
+//! A block that another one ends has no `reorder-end`, which may have been forgotten. And where the line was refused that was to open a
+//! block, an order line gives weights, and moves nothing.
 
 use crate::messages::tell_words;
 use coll_devices::Sink;
@@ -279,6 +280,10 @@ fn tell_others<M: Sink>(messages: &mut M, others: u64) {
 /// What is told of a block that ended without `reorder-end`, since another one begins.
 pub(crate) const UNENDED: &[u8] =
     b"note: the block before has no reorder-end: it ended where this one begins, and the reply is its own\n";
+
+/// What is told of an order line where no block was opened.
+pub(crate) const UNOPENED: &[u8] =
+    b"note: no block is open, since the line that was to open it was refused: this gave the entry other weights where it stands (:undo takes it back)\n";
 
 /// What is told of an order line that begins with `%`, in the words of a lint.
 pub(crate) const PERCENT: &[u8] =

@@ -4,10 +4,11 @@
 //! and at once. So each line is read here as well, by a lexer of its own, which reads what the session's does. What is found is for
 //! standard error alone, and changes no reply; where memory is refused, nothing is found. A word that other programs take for `:help`
 //! or `:quit` is found here too, a command that is mistyped or has no colon, `%`, with which comments of many sources begin, a declared
-//! name without its brackets, and a keyword of another dialect.
+//! name without its brackets, a keyword of another dialect, and what the reply to a block will say of a line (`doubts`).
 
 ghost use Rattle.coll_lex.specs.Names.{AreTokens};
 
+use crate::doubts::{Doubt, doubt_about};
 use coll_advice::is_near;
 use coll_findings::{ForeignWord, advice_on_operands, foreign_word};
 use coll_lex::{LexFault, Lexer, Line, TextBuf, Token};
@@ -19,10 +20,12 @@ use std::alloc::{AllocError, Global};
 // What a line is to a block.
 #[derive(Clone, Copy)]
 enum TypedLine {
-    // It has no token, or is `reorder-end`, accepted.
+    // It has no token.
     Nothing,
     // `reorder-after`, accepted.
     Opening,
+    // `reorder-end`, accepted.
+    Ending,
     // A command, which a block lets pass.
     Command,
     // An order line.
@@ -94,6 +97,10 @@ pub(crate) struct TypedLines {
     name: Option<TextBuf>,
     // How the last line is written, where its fault is one of its operands.
     written: Option<&'static str>,
+    // What the reply to the block will say of the last line.
+    doubt: Option<Doubt>,
+    // Whether a line was refused that was to open a block, and only order lines came since.
+    unopened: bool,
     // How many lines the block has, those at fault too.
     lines: usize,
     // The number of the first fault that was told of the block.
@@ -110,17 +117,27 @@ impl TypedLines {
             wish: Wish::Nothing,
             name: None,
             written: None,
+            doubt: None,
+            unopened: false,
             lines: 0,
             first: None,
         })
     }
 
-    /// Reads one more physical line, without its line feed. Names are those of a table.
-    pub fn read(&mut self, alloc: Global, table: &Table, line: &[u8]) {
+    /// Reads one more physical line, without its line feed. Names are those of a table. What the reply to a block will say of it is looked
+    /// for where a person is asked for lines.
+    pub fn read(&mut self, alloc: Global, table: &Table, line: &[u8], prompts: bool) {
         self.last = TypedLine::Nothing;
         self.wish = Wish::Nothing;
         self.written = None;
         drop(self.name.take());
+        drop(self.doubt.take());
+        self.read_next(alloc, table, line, prompts);
+        self.unopened = self.is_unopened_behind();
+    }
+
+    // Reads one more physical line, of which nothing was found yet.
+    fn read_next(&mut self, alloc: Global, table: &Table, line: &[u8], prompts: bool) {
         match self.lexer.feed(line) {
             Ok(Some(line)) => {
                 self.last = line_of(alloc, &line);
@@ -131,11 +148,33 @@ impl TypedLines {
                 if let TypedLine::Fault(number) = self.last {
                     self.written = advice_on_operands(&line, number);
                 }
+                if prompts {
+                    self.doubt = doubt_about(alloc, table, &line);
+                }
                 drop(line);
             }
             Ok(None) | Err(LexFault::OutOfMemory) => {}
             Err(fault) => self.last = TypedLine::Fault(fault.number()),
         }
+    }
+
+    // Whether a line was refused that was to open a block, and only order lines came since, the last line included.
+    fn is_unopened_behind(&self) -> bool {
+        match (self.last, self.wish) {
+            (TypedLine::Fault(_), Wish::Foreign(word)) => self.unopened || word.opens_block(),
+            (TypedLine::Fault(_) | TypedLine::Order | TypedLine::Nothing, _) => self.unopened,
+            _ => false,
+        }
+    }
+
+    /// What the reply to the block will say of the last line.
+    pub fn doubt(&self) -> Option<&Doubt> {
+        self.doubt.as_ref()
+    }
+
+    /// Whether a line was refused that was to open a block, and only order lines came since.
+    pub fn is_unopened(&self) -> bool {
+        self.unopened
     }
 
     /// What the last line asks for that is asked for otherwise.
@@ -209,7 +248,9 @@ impl TypedLines {
     // The fault of a line within a block. The first order line too many spoils a block that no other line has spoiled.
     fn untold_within(&mut self, line: TypedLine) -> Option<LineFault> {
         let number = match line {
-            TypedLine::Nothing | TypedLine::Opening | TypedLine::Command => return None,
+            TypedLine::Nothing | TypedLine::Opening | TypedLine::Ending | TypedLine::Command => {
+                return None;
+            }
             TypedLine::Idle => Some(RequestFault::BlockOpen.number()),
             TypedLine::Order if self.first.is_some() || self.lines < MOST_BLOCK_LINES => None,
             TypedLine::Order => Some(SyntaxFault::BlockTooLong.number()),
@@ -242,7 +283,7 @@ fn line_of(alloc: Global, line: &Line) -> TypedLine
             let typed = match &read {
                 DeltaLine::Order(_) => TypedLine::Order,
                 DeltaLine::ReorderAfter(_) => TypedLine::Opening,
-                DeltaLine::ReorderEnd => TypedLine::Nothing,
+                DeltaLine::ReorderEnd => TypedLine::Ending,
                 DeltaLine::Copy | DeltaLine::Script => TypedLine::Idle,
                 _ => TypedLine::Fault(RequestFault::BlockOpen.number()),
             };

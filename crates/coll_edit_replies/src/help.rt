@@ -36,7 +36,7 @@ the table:
   :check  :list  :print
 a TEXT or a FILE with blanks or one of ; , < # stands in quotes
   :help NUMBER         what a refusal says, and what to do
-  :quit                the end
+  :quit                the end; at Ctrl-C what stands in no file is lost
 ";
 
 /// Writes what may be typed, and flushes it.

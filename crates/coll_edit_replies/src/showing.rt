@@ -1,8 +1,9 @@
 //! An entry is shown: its rank, its weights and its section, and three neighbours on each side.
 //!
 //! What is shown is stated by places in the order of the table (`specs/Showing.antt`). Here neighbours are found by their nodes, and
-//! the rank by the places of the entries, where these are known; else the entries before the one that is shown are counted. A character
-//! without an entry stands where `UNDEFINED` does, or behind all entries where that has none. Nothing here takes memory.
+//! the rank by the places of the entries, where these are known; else the entries before the one that is shown are counted, which is the
+//! simple form: the clause `sent` of `write_shown` says the same of both. A character without an entry stands where `UNDEFINED` does, or
+//! behind all entries where that has none. Nothing here takes memory.
 
 ghost use Rattle.std.specs.Prelude.{◌≡◌, ◌≤◌, ◌+◌, ◌-◌, ℕ, None, Some, true, chars, codes, length, option_copied, option_map, IfSome, OnOk};
 ghost use Rattle.std.specs.List.{flat_map};

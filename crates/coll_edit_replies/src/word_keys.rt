@@ -4,7 +4,7 @@
 //! characters beside the entries, these only have to have their places, which a session mostly keeps, and each word looks up what it
 //! asks for and no more. How many are few may change: the words are the same.
 //!
-//! Keys by ranks are the plain form; `ListsWords` is the clause of both, and checkers/listed_words.py compares them.
+//! Keys by ranks are the simple form; `ListsWords` is the clause of both, and checkers/listed_words.py compares them.
 
 ghost use Rattle.std.specs.Prelude.{◌≡◌, ◌≢◌, chars, true, IfErr, IfOk, IfSome};
 ghost use Rattle.coll_nodes.specs.NodeNumbers.{AreNumbersOf};

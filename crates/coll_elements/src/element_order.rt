@@ -5,7 +5,7 @@
 //! last one before it that its string begins with; so one goes from there to shorter ones, at most as often as a string has
 //! characters, until the text begins with one.
 //!
-//! The plain form is `split_text`, which looks each beginning of the text up; both have the clause `elements_of`.
+//! The simple form is `split_text`, which looks each beginning of the text up; both have the clause `elements_of`.
 
 ghost use Rattle.std.specs.Prelude.{◌≡◌, ◌<◌, ◌≤◌, ◌++◌, ◌∷◌, ◌==◌, ◌&&◌, [], if◌then◌else◌, ℕ, false, List};
 ghost use Rattle.std.specs.Prelude.{slice_index_or, chars, length, vec_len, encode_utf8_all, OnOk};

@@ -1,8 +1,8 @@
 //! What tells the ranks of a table's identifiers, and the order of two texts.
 //!
-//! The ranks of a whole table are made in one pass over its entries. Where the texts have few characters beside the entries, these
-//! are only numbered, which is a much shorter pass, unless their places are known already, and what is asked for is looked up by
-//! itself. How many are few may change: what is told is the same.
+//! The ranks of a whole table, the simple form, are made in one pass over its entries. Where the texts have few characters beside the
+//! entries, these are only numbered, which is a much shorter pass, unless their places are known already, and what is asked for is looked
+//! up by itself. How many are few may change: what is told is the same, by the clause `Serves` of both.
 
 ghost use Rattle.std.specs.Prelude.{◌≡◌, ◌≢◌, ◌||◌, chars, length, true, unwrap_or, IfErr, IfOk};
 ghost use Rattle.coll_nodes.specs.NodeNumbers.{AreNumbersOf};

@@ -1,8 +1,8 @@
 //! How a line is spelled that the grammar refuses, where its words show what it is.
 //!
 //! What to do by the number of such a fault is said of all lines. Of a line with a keyword it is said here how that line is written; of
-//! `%` and `#`, that they begin no comment; of letters that begin a line as a keyword does, how they are declared; and of a word among
-//! weights, that a name has brackets. A further keyword is a row here.
+//! `%` and `#`, that they begin no comment; of letters that begin a line as a keyword does, how they are declared; and of a name that
+//! begins a line, or stands among weights, that it has brackets. A further keyword is a row here.
 
 use crate::foreign_words::foreign_word;
 use coll_advice::is_near;
@@ -19,6 +19,9 @@ const BAD_OPERAND: u8 = 29;
 
 // What to write in place of a weight that is a word.
 const NAMED: &str = "write a name between < and >, and part weights by ;";
+
+// What to write in place of a name that begins a line.
+const BRACKETED: &str = "write a name between < and >";
 
 // What is said of a word that is near to the weight which ignores.
 const IGNORE_MEANT: &str = "IGNORE is meant?";
@@ -40,6 +43,9 @@ const UNDEFINED: &str = "UNDEFINED";
 
 // Most letters of a word that is no keyword for its length.
 const MOST_LETTERS: usize = 3;
+
+// Fewest digits of a name that is spelled by a code point.
+const LEAST_DIGITS: usize = 4;
 
 // Each keyword with operands of its own, and how its line is written.
 const SPELLED: &[(&str, &str)] = &[
@@ -114,14 +120,27 @@ fn advice_on_sign(first: &Token) -> Option<&'static str> {
     }
 }
 
-// What is said of a first word that begins no line: of a comment, and of letters.
+// What is said of a first word that begins no line: of a comment, of letters, and of a name.
 fn advice_on_first(first: &Token) -> Option<&'static str> {
     match first {
         Token::Word(word) if are_letters(word.get().as_bytes()) => match foreign_word(first) {
             Some(_) => None,
             None => Some(DECLARED),
         },
+        Token::Word(word) if is_of_code_point(word.get().as_bytes()) => Some(BRACKETED),
         _ => advice_on_sign(first),
+    }
+}
+
+// Whether a word is a capital letter and hexadecimal digits, as names of characters are, and of their symbols in published tables.
+fn is_of_code_point(word: &[u8]) -> bool {
+    match word {
+        [first, digits @ ..] => {
+            first.is_ascii_uppercase()
+                && digits.len() >= LEAST_DIGITS
+                && digits.iter().all(u8::is_ascii_hexdigit)
+        }
+        _ => false,
     }
 }
 

@@ -2,8 +2,9 @@
 //!
 //! Whoever keeps places beside a session hands them over before a change. A change only notes which table they are those of
 //! (`Standing`), and looks at none of them: they follow its record where they are asked for again, or where a further statement, or
-//! a withdrawal, comes first. Of two undos, or two redos, between which nobody asked for places, they follow neither. Where following
-//! doesn't serve, `Session::take_places` gives all anew. The definitions stand in `specs/Following.antt`.
+//! a withdrawal, comes first. Of two undos, or two redos, between which nobody asked for places, they follow neither. The simple form is
+//! to give all anew (`give_places`), as `Session::take_places` does where following doesn't serve; `AreNumbersOf` joins both. The
+//! definitions stand in `specs/Following.antt`.
 
 ghost use Rattle.std.specs.Prelude.{◌≡◌, reverse, OnOk};
 ghost use Rattle.coll_nodes.specs.NodeNumbers.{AreNumbersOf};

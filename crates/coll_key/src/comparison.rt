@@ -3,7 +3,7 @@
 //! Two texts are compared level by level, number by number, up to the first difference, and no key is formed. A forward level goes
 //! over the texts themselves, behind what both begin with; for a backward one the lists of both are made.
 //!
-//! The plain form compares keys; `keys_are_ordered_as_texts` joins both.
+//! The simple form compares keys; `keys_are_ordered_as_texts` joins both.
 
 ghost use Rattle.std.specs.Prelude.{◌≡◌, ◌≢◌, ◌<◌, ◌≤◌, ◌||◌, ℕ, List, chars, length, true, false, All, IfOk, IfErr, IsOk};
 ghost use Rattle.std.specs.Ordering.{ordering_then};

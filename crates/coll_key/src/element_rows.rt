@@ -1,4 +1,5 @@
-//! The rows of the elements of a text: those of a word are put into an array, those of a longer text kept in a list.
+//! The rows of the elements of a text: those of a word are put into an array, those of a longer text kept in a list, which is the simple
+//! form; the clause `rows` says the same of both.
 
 ghost use Rattle.std.specs.Prelude.{◌≡◌, ◌≢◌, ◌≤◌, ℕ, chars, length, map, take, true, false, IfOk, IfErr, IfSome, MatchOption};
 ghost use Rattle.coll_key.specs.KeyLimits.{is_too_long};

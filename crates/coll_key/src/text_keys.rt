@@ -1,7 +1,7 @@
 //! Sort keys and comparison of short texts, without the ranks of the whole table.
 //!
 //! What a text meets of a table is looked up for the text alone, so a changed table costs nothing but new numbers of its entries.
-//! For many texts or long ones `Ranks` serve better: they are the plain form (`keys`, `comparison`), and both have the clauses `key_of`
+//! For many texts or long ones `Ranks` serve better: they are the simple form (`keys`, `comparison`), and both have the clauses `key_of`
 //! and `order_of`.
 
 ghost use Rattle.std.specs.Prelude.{◌≡◌, ◌≢◌, ◌||◌, chars, map, true, false, IfOk, IfErr};

@@ -1,6 +1,7 @@
 //! The numbers of a text at a level that is looked at from the back, one after another, by the rows of its characters.
 //!
-//! So two texts are compared at such a level along the rows of both, from the last ones on, and no list of the level is made.
+//! So two texts are compared at such a level along the rows of both, from the last ones on, and no list of the level is made. The simple
+//! form compares these lists, as keys do (`level_list` of `coll_key`), and is what the clause of `order_from_back` says.
 
 ghost use Rattle.std.specs.Prelude.{◌≡◌, ◌<◌, ◌≤◌, ◌∷◌, [], Bool, length, reverse, true, MatchOption};
 ghost use Rattle.coll_key.specs.LevelList.{level_list, listed};

@@ -5,7 +5,7 @@
 //! most words that hold a character with which an element begins are still known to be their characters alone, since hardly any holds
 //! what follows it in the element.
 //!
-//! The plain form is `longest`, which looks the text up; `AreMarks` joins both.
+//! The simple form is `longest`, which looks the text up; `AreMarks` joins both.
 
 ghost use Rattle.std.specs.Prelude.{◌≡◌, ◌<◌, ◌≤◌, ℕ, chars, length, true, slice_index_or, OnOk, IfOk};
 ghost use Rattle.coll_nodes.specs.TableLayout.{collation};

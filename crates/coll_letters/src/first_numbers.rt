@@ -6,7 +6,7 @@
 //! such characters behind the bytes that they share, these are compared as bytes, and nothing is decoded. What isn't decided so is left
 //! to the levels (`letter_weights`), with what was seen: how many bytes they share, and whether this level doesn't tell them apart.
 //!
-//! The plain form are ranks of the whole table; the clause `order_of` joins both, and checkers/random_reviews.py compares them.
+//! The simple form are ranks of the whole table; the clause `order_of` joins both, and checkers/random_reviews.py compares them.
 
 ghost use Rattle.std.specs.Prelude.{◌≡◌, ◌≢◌, ◌<◌, ◌∷◌, [], ℕ, All, chars, length, slice_index_or, true, IfOk, IfSome};
 ghost use Rattle.std.specs.Ordering.{is_ne};

@@ -2,7 +2,8 @@
 //!
 //! Where single numbers don't tell the order of two texts, since an ignored weight stands against another one and positions tell, or
 //! against the end of a text, or a character has several numbers, the level is gone through so along both. Nothing is kept of them, and
-//! it takes no memory: what is left of a text is a list of items (`specs/LevelNumbers.antt`).
+//! it takes no memory: what is left of a text is a list of items (`specs/LevelNumbers.antt`). The simple form compares keys; the clause
+//! `order_behind` of `order_by_numbers` joins both.
 
 ghost use Rattle.std.specs.Prelude.{◌≡◌, ◌<◌, ◌≤◌, ◌∷◌, [], ℕ, List, chars, length, IfSome, MatchOption};
 ghost use Rattle.std.specs.Ordering.{ordering_then};

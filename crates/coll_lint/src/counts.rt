@@ -10,11 +10,11 @@ use itoa::Buffer;
 // Most digits of a count, and most bytes, since a comma stands behind each of them at most.
 const MOST_DIGITS: usize = 10;
 
-/// Most bytes of a count with its commas.
-pub const MOST_COUNT_BYTES: usize = 2 * MOST_DIGITS;
+// Most bytes of a count with its commas.
+const MOST_COUNT_BYTES: usize = 2 * MOST_DIGITS;
 
 /// The digits of a count, with their commas.
-pub fn with_commas(count: u32) -> ArrayVec<u8, MOST_COUNT_BYTES>
+pub(crate) fn with_commas(count: u32) -> ArrayVec<u8, MOST_COUNT_BYTES>
     ensures { result.items ≡ commas count }
 {
     let mut digits = Buffer::new();

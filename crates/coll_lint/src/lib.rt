@@ -32,7 +32,6 @@ mod spelled_places;
 mod surveyed;
 mod warning_lines;
 
-pub use counts::{MOST_COUNT_BYTES, with_commas};
 pub use kept_texts::{MOST_TEXT_BYTES, keep_text};
 pub use lint_lines::write_lint;
 pub use linting::{lint, lint_texts, lint_watched};

@@ -70,8 +70,9 @@ impl EntryNumbers {
         }
     }
 
-    /// The number that is kept for a node; 0 where none is, or where all were begun anew and it got none since. It takes no memory. Of
-    /// a node that was dropped, and of one that was made in its slot, it is the number that was given last, behind the moves since.
+    /// The number that is kept for a node, behind the moves since it was given; 0 where none was given since all were begun anew. A slot
+    /// knows no node: of one that was dropped, and of one that was made in its slot, it is the number that was given last. It takes no
+    /// memory.
     pub fn get(&self, node: NodeId) -> u32
         ensures { result ≡ number_at self.now node }
     {

@@ -1,8 +1,9 @@
 //! Names in the order in which they came in, found by hash or at a guess.
 //!
 //! A `ListedNames` has each of its names twice: in a map, which tells its place by hash, and in a list, in which a name is looked at where
-//! it is guessed to stand. So a guess that is right needs no hash, and a copy shares both (`node_names`). The map is that of `std`: whoever
-//! has a table has a `ListedNames`, and a map that keeps an order would be loaded by every proof about it.
+//! it is guessed to stand. So a guess that is right needs no hash, and a copy shares both (`node_names`). The simple form is `place`, by
+//! hash, to which `place_by_guess` leaves a guess that is wrong; both have the same clauses. The map is that of `std`: whoever has a table
+//! has a `ListedNames`, and a map that keeps an order would be loaded by every proof about it.
 
 ghost use Rattle.std.specs.Prelude.{◌≡◌, [], Some, position, is_some, unwrap_or, IfOk, OnOk, OnErr};
 ghost use Rattle.std.specs.HashMap.{get, IsUnchanged, Updates};

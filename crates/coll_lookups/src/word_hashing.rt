@@ -3,7 +3,7 @@
 //! Names are short, and each is one write. So a write is cut into words at once, and nothing is kept between two
 //! writes but the four words of the state: a name of at most seven bytes is one word, which ends with their number. Which bytes were
 //! written is read back from the words of a write, so no two keys have the same words; the keys are made of `HashKeys`, and as hard
-//! to know (`specs/WordHashing.antt`). The plain form is the hasher of `HashKeys`, byte by byte. Which hasher serves a look-up decides how
+//! to know (`specs/WordHashing.antt`). The simple form is the hasher of `HashKeys`, byte by byte. Which hasher serves a look-up decides how
 //! fast it is, and nothing else.
 
 ghost use Rattle.std.specs.Prelude.{◌≡◌};

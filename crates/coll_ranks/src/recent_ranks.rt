@@ -7,7 +7,7 @@
 //! of identifiers, and any other is looked up. Which slot is asked, and whether anything is kept at all, is for speed alone; that each
 //! rank that is kept is right is the invariant.
 //!
-//! The plain form is `table_ranks`, which looks each identifier up, as is done here where none that is kept has it; both have one clause
+//! The simple form is `table_ranks`, which looks each identifier up, as is done here where none that is kept has it; both have one clause
 //! (`known_rank`).
 
 ghost use Rattle.std.specs.Prelude.{◌≡◌, Some, IfSome, IfOk};

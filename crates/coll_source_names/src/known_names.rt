@@ -6,7 +6,7 @@
 //! Nearly all symbols of a published table are those of a few ranges. A range none of whose names is known before is kept as it is, so
 //! its names take no memory and aren't hashed: whether it has a name is told by the letters and the digits of that. The ranges stand in
 //! the order of their names, and no name of one stands between two of another, so a name is looked for in one of them, which is found by
-//! halves.
+//! halves. The simple form keeps each name by itself, as is done here behind 64 ranges; the test `meanings` of `coll_tests` compares both.
 
 ghost use Rattle.std.specs.Prelude.{◌≡◌, ◌<◌, ◌≤◌, ◌+◌, ◌-◌, ◌^◌, ℕ, min, Some, chars, vec_len, OnOk, OnErr};
 ghost use Rattle.std.specs.Bool.{OnTrue};

@@ -4,7 +4,7 @@
 //! mostly a comment behind them. Such a line is read from its text, each token lent from there, so that no list of tokens is made and
 //! nothing of the comment is looked at. What a line says is what `grammar` says of its tokens; any other line is left to it.
 //!
-//! The plain form is `grammar`, to which escapes, ranges, ellipses and lines that are no order lines are left; the test `order_lines` of
+//! The simple form is `grammar`, to which escapes, ranges, ellipses and lines that are no order lines are left; the test `order_lines` of
 //! `coll_tests` compares both.
 
 ghost use Rattle.std.specs.Prelude.{◌≡◌, chars};

@@ -1,6 +1,7 @@
 //! Ranges of names: letters that all have, and then a number of as many digits in each.
 //!
-//! All names of a range are spelled in one room, and kept as short texts are, which take no memory.
+//! All names of a range are spelled in one room, and kept as short texts are, which take no memory. `spell_next` makes of a name the one
+//! behind it; where that is more than another last digit it is left to `spell_name`, the simple form; `range_name` says what both spell.
 
 ghost use Rattle.std.specs.Prelude.{◌≡◌, ◌==◌, ◌<◌, ◌≤◌, ◌+◌, ◌-◌, ◌/◌, ◌%◌, ◌^◌, ◌++◌, ℕ, List, [], Some, length, chars, string_bytes, IfOk, IfSome, IfNone, OnOk};
 ghost use Rattle.coll_lex.specs.Spelling.{hex_digit};

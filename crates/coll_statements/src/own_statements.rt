@@ -1,8 +1,8 @@
 //! Statements by own names.
 //!
 //! A second name in a statement stands for the own name of its symbol (`specs/OwnStatements.antt`). Most statements use none, and
-//! stay as they are: only one that does is copied. A new statement that names what is declared is a case of `by_own_names` and of
-//! `uses_second` first.
+//! stay as they are: only one that does is copied, which is the simple form; the clause `own` says the same of both. A new statement
+//! that names what is declared is a case of `by_own_names` and of `uses_second` first.
 
 ghost use Rattle.std.specs.Prelude.{◌≡◌, None, true, false, unwrap_or, option_map, IfOk, OnErr};
 ghost use Rattle.std.specs.List.{list_any};

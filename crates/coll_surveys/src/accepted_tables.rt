@@ -3,7 +3,7 @@
 //! Such a table is there already, built of this text, so no line is judged or put to a builder again. What is told stands on few kinds of
 //! lines: `script`, and the declarations of names that have no entry. The order lines, which are most, are passed over unread.
 //!
-//! The plain form is `survey_table`, which serves where the table has a fault; the test `surveys` of `coll_tests` compares both.
+//! The simple form is `survey_table`, which serves where the table has a fault; the test `surveys` of `coll_tests` compares both.
 
 ghost use Rattle.std.specs.Prelude.{◌≡◌, ◌<◌, [], length, IfOk, Some};
 ghost use Rattle.coll_texts.specs.BuilderStates.{is_end};

@@ -6,7 +6,8 @@
 //! is told of a text is stated as a whole.
 //!
 //! Of a statement without fault it warns where it changes nothing, and of lines whose entries don't sort where they
-//! stand; of lines without effect; and of what is declared and never placed.
+//! stand; of lines without effect; and of what is declared and never placed. Where the line is refused that was to open a block, it is
+//! said of the faults of the lines behind it that they follow from that.
 
 ghost use Rattle.std.specs.Prelude.{◌≡◌, ◌∷◌, [], map, Some, IfOk, IfSome, OnOk, option_map};
 ghost use Rattle.coll_nodes.specs.TableLayout.{collation};
@@ -30,7 +31,7 @@ use coll_findings::{
     about_found, advice_on_operands, changed_nothing, is_misplaced, lacks_weights, refused_subject,
     survey_lines,
 };
-use coll_lex::{EarlyEnd, LexFault, Line, TextBuf};
+use coll_lex::{EarlyEnd, LexFault, Line, Piece, TextBuf, Token};
 use coll_lookups::HashKeys;
 use coll_requests::DeltaFault;
 use coll_syntax::{DeltaLine, Id, OrderLine, Statement, SyntaxFault, is_word, parse_delta_line};
@@ -45,7 +46,16 @@ struct DeltaSurvey {
     declarations: Declarations,
     // The block that is open.
     block: Option<OpenBlock>,
+    // Whether a line was refused that was to open a block, and none was opened or ended since.
+    unopened: bool,
 }
+
+// The name by which published tailorings copy the table of ISO/IEC 14651.
+const COMMON_TABLE: &str = "iso14651_t1";
+
+// What is said of a fault of a line that was meant for a block.
+const FOLLOWS: &str =
+    "it follows from the line that was to open a block and is refused: mend that one first";
 
 /// Surveys a delta file, which is input 1, over a table.
 ///
@@ -69,6 +79,7 @@ pub fn survey_delta(
         told: Collected::new(alloc, keys, 1),
         declarations: Declarations::new(alloc, keys),
         block: None,
+        unopened: false,
     };
     let taken = survey.take_all(text);
     survey.end().if_done(taken)
@@ -126,6 +137,7 @@ impl DeltaSurvey {
             told,
             declarations,
             block,
+            unopened: _,
         } = self;
         drop(declarations);
         drop(block);
@@ -167,6 +179,7 @@ impl DeltaSurvey {
         ensures left { OnOk result (delta_state self.new ≡ left_passed (delta_state self.old) line.now.number opening) }
     {
         let about = refused_subject(self.alloc, line, fault)?;
+        self.unopened = self.unopened || is_opening(&about);
         tell_refused(line, fault, about, &mut self.told)?;
         self.pass_over(line.number, opening)
     }
@@ -206,8 +219,7 @@ impl DeltaSurvey {
     {
         match line {
             DeltaLine::Script => self.take_idle(number, Some(Warning::ScriptWithoutEffect)),
-            DeltaLine::Copy => self.take_idle(number, Some(Warning::CopyWithoutEffect)),
-            DeltaLine::Category => self.take_idle(number, None),
+            DeltaLine::Copy | DeltaLine::Category => self.take_idle(number, None),
             DeltaLine::EndCategory => self.end_category(number),
             DeltaLine::ReorderEnd => self.take_end(number),
             _ => Ok(()),
@@ -249,7 +261,12 @@ impl DeltaSurvey {
     {
         match self.block {
             Some(_) => self.end_block(),
-            None => tell(number, Fault::NoBlock, About::Nothing, &mut self.told),
+            None => {
+                let said = said_behind(self.unopened);
+                self.unopened = false;
+                self.told
+                    .tell_saying(number, number, Fault::NoBlock, About::Nothing, said)
+            }
         }
     }
 
@@ -260,6 +277,7 @@ impl DeltaSurvey {
         ensures left { OnOk result (delta_state self.new ≡ opened (delta_state self.old) number target) }
     {
         self.end_block()?;
+        self.unopened = false;
         drop(
             self.block
                 .replace(OpenBlock::new(self.alloc, number, target)),
@@ -379,6 +397,7 @@ impl DeltaSurvey {
             block.begins,
             block.numbers.as_slice(),
             found,
+            false,
             &mut self.told,
         )?;
         if left {
@@ -404,7 +423,7 @@ impl DeltaSurvey {
             self.put(number, statement, &[], in_block)?;
             return Ok(true);
         }
-        let told = tell_found(number, &[], found.as_slice(), &mut self.told);
+        let told = tell_found(number, &[], found.as_slice(), self.unopened, &mut self.told);
         drop(found);
         told?;
         Ok(false)
@@ -461,7 +480,7 @@ impl TakesLines for DeltaSurvey {
         match parse_delta_line(self.alloc, line) {
             Ok(read) => {
                 let ends = ends_category(&read);
-                let warned = warn_of_sign(line, &read, &mut self.told);
+                let warned = warn_of_words(line, &read, &mut self.told);
                 self.take_read(line.number, read)?;
                 warned?;
                 Ok(ends)
@@ -481,15 +500,46 @@ impl TakesLines for DeltaSurvey {
     }
 }
 
-// Warns of an order line that begins with `%`, as one that is meant as a comment.
-fn warn_of_sign(line: &Line, read: &DeltaLine, told: &mut Collected) -> Result<(), AllocError>
+// Warns of an order line that begins with `%`, as one that is meant as a comment, and of a copy of another table than published
+// tailorings are for.
+fn warn_of_words(line: &Line, read: &DeltaLine, told: &mut Collected) -> Result<(), AllocError>
     ensures { told.new.told.faults ≡ told.old.told.faults }
 {
-    match (read, line.tokens.get().first()) {
-        (DeltaLine::Order(_), Some(word)) if is_word(word, "%") => {
+    match (read, line.tokens.get()) {
+        (DeltaLine::Order(_), [word, ..]) if is_word(word, "%") => {
             told.warn(Warning::PercentSign, line.number, None)
         }
+        (DeltaLine::Copy, [_, name, ..]) if is_common_table(name) => Ok(()),
+        (DeltaLine::Copy, _) => told.warn(Warning::CopyWithoutEffect, line.number, None),
         _ => Ok(()),
+    }
+}
+
+// Whether a string names the table of ISO/IEC 14651, over which published tailorings stand: as a delta file stands over its table.
+fn is_common_table(name: &Token) -> bool {
+    match name {
+        Token::Text(pieces) => spells(pieces.get(), COMMON_TABLE),
+        _ => false,
+    }
+}
+
+// Whether these are the characters of a text.
+fn spells(pieces: &[Piece], text: &str) -> bool {
+    let mut letters = text.chars();
+    for piece in pieces {
+        match (piece, letters.next()) {
+            (Piece::Char(letter), Some(next)) if *letter == next => {}
+            _ => return false,
+        }
+    }
+    letters.next().is_none()
+}
+
+// Whether what a line is about that was refused is a keyword in place of that which opens a block.
+fn is_opening(about: &About) -> bool {
+    match about {
+        About::Word(word) => word.opens_block(),
+        About::Nothing | About::Id { .. } => false,
     }
 }
 
@@ -525,11 +575,13 @@ fn tell_open(number: u32, block: &Option<OpenBlock>, told: &mut Collected) -> Re
     }
 }
 
-// Tells the faults that were found in a statement that begins at a line, and of which these are the numbers of the lines.
+// Tells the faults that were found in a statement that begins at a line, and of which these are the numbers of the lines; it may have
+// been meant as a line of a block that wasn't opened.
 fn tell_found(
     begins: u32,
     numbers: &[u32],
     found: &[Found],
+    unopened: bool,
     told: &mut Collected,
 ) -> Result<(), AllocError>
     ensures { OnOk result (Tells told.old.told.faults.items told.new.told.faults.items (map (found_fault begins numbers.now) found.now)) }
@@ -537,9 +589,26 @@ fn tell_found(
     for fault in found {
         let about = about_found(fault)?;
         let line = line_of(begins, numbers, fault);
-        told.tell(begins, line, Fault::Table(fault.refusal), about)?;
+        let said = said_of(fault.refusal, unopened);
+        told.tell_saying(begins, line, Fault::Table(fault.refusal), about, said)?;
     }
     Ok(())
+}
+
+// What is said of a refusal beside its number: where no block was opened, that lines are at fault which a block would take.
+fn said_of(refusal: Refusal, unopened: bool) -> Option<&'static str> {
+    match refusal {
+        Refusal::NotPlaced | Refusal::NoWeights => said_behind(unopened),
+        _ => None,
+    }
+}
+
+// What is said of a fault of a line that belongs to a block, where none was opened.
+fn said_behind(unopened: bool) -> Option<&'static str> {
+    if unopened {
+        return Some(FOLLOWS);
+    }
+    None
 }
 
 // Warns of the line of a statement, or of those of a block, of which these are the numbers, over the table behind it.

@@ -1,8 +1,8 @@
-//! Lines of a delta that are read token by token where they stand.
+//! Lines of a delta that are read where they stand, with no list of tokens.
 //!
 //! Nearly all lines of a large delta are order lines of its blocks. Such a line, and one that opens or ends a block, is read from its text,
-//! each token lent from there, so that no list of tokens is made. One with a token that isn't lent, one at fault and any other line
-//! are left to `parse_delta_line`; where one is read here, it says what it says there, by the same definition (`delta_line`).
+//! and each token is lent from there. One with a token that isn't lent, one at fault and any other line are left to `parse_delta_line`,
+//! the simple form; where one is read here, it says what it says there, by the same definition (`delta_line`).
 
 ghost use Rattle.std.specs.Prelude.{◌≡◌, ◌<◌, length, chars, Some, Ok, IfOk, IfSome, OnErr};
 ghost use Rattle.coll_lex.specs.PlainTexts.{IsReadWhole, plain_reading};

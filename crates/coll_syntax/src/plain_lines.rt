@@ -1,8 +1,8 @@
-//! Lines of a table that are read token by token where they stand.
+//! Lines of a table that are read where they stand, with no list of tokens.
 //!
 //! Nearly all lines of a table declare a symbol, place one, or give a character weights that are names, characters, strings of names
-//! or `IGNORE`. Such a line is read from its text, each token lent from there, so that no list of tokens is made. Any other line is
-//! left to `parse_kept_line`, which says what all mean.
+//! or `IGNORE`. Such a line is read from its text, and each token is lent from there. Any other line is left to `parse_kept_line`, the
+//! simple form, which says what all mean (`kept_line`); the clauses `read` and `whole` join both, and `Loader::take_physical` chooses.
 
 ghost use Rattle.std.specs.Prelude.{◌≡◌, ◌<◌, [], ◌∷◌, ◌++◌, length, chars, Ok, IfOk, IfSome, IsSome, OnErr, IsTrue};
 ghost use Rattle.coll_lex.specs.PlainTexts.{IsOver, IsReadWhole, plain_reading};

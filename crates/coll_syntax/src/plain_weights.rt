@@ -1,7 +1,8 @@
-//! Weights of an order line that are read token by token where they stand.
+//! Weights of an order line that are read where they stand, with no list of tokens.
 //!
 //! A weight is mostly one name or the character itself, and for a few lines a string of names; each is read from the text, and only what
-//! is kept of it is made. What an operand means is that of `weight_lists`; of a table's line of a character that of `kept_weights`.
+//! is kept of it is made. The simple form is `weight_lists`, to which a line with any other weight is left; both have its definitions:
+//! what an operand means is `weight`, and of a table's line of a character `kept_weights`.
 
 ghost use Rattle.std.specs.Prelude.{◌≡◌, ◌<◌, ◌≤◌, [], ◌∷◌, length, chars, Ok, IfOk, IfSome};
 ghost use Rattle.coll_lex.specs.PlainStrings.{piece_in};

@@ -6,7 +6,7 @@
 //! place: no ring is walked. Where that isn't enough, the places are given up: a section moved, an entry is now the first of
 //! its section, or no more moves can be kept. Where giving them anew takes less, nothing is looked at.
 //!
-//! The plain form is `number_entries`; both have the clause `AreNumbersOf`.
+//! The simple form is `number_entries`; both have the clause `AreNumbersOf`.
 
 ghost use Rattle.std.specs.Prelude.{◌≡◌, ◌≢◌, ◌<◌, ◌≤◌, ◌+◌, ◌-◌, ◌^◌, ℕ, List, Some, suc, min, true, if◌then◌else◌, IsSome, length};
 ghost use Rattle.coll_order.specs.Lists.{same_node};

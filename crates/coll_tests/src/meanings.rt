@@ -1,14 +1,14 @@
-//! Tests of `coll_meanings`: names, weights and what is placed are what the plain form makes of them, which keeps each name by itself.
+//! Tests of `coll_meanings`: names, weights and what is placed are what the simple form makes of them, which keeps each name by itself.
 //!
-//! The plain form stands in `plain_meanings` and `plain_weights`. The forms of `coll_meanings` are names one by one, ranges that are kept
+//! The simple form stands in `simple_meanings` and `simple_weights`. The forms of `coll_meanings` are names one by one, ranges that are kept
 //! as they are, and a table that is asked (`forms`). All take the same lines, and all that is told of each is written as a text (`told`).
 //! Lines are made (`made_sources`), on both sides of each limit that a form has: 64 ranges, names of 16 bytes, as many declarations as a
 //! table may have, and the first and the last name of a range.
 
 mod forms;
 mod made_sources;
-mod plain_meanings;
-mod plain_weights;
+mod simple_meanings;
+mod simple_weights;
 pub mod told;
 
 use crate::assertions::{assert_same, assert_text};
@@ -20,7 +20,7 @@ use coll_source_names::{Found, Placed};
 use coll_sources::{Said, SourceLine, SourcePlace};
 use coll_syntax::{Id, OrderLine, Weight};
 use coll_table::{HashKeys, Table};
-use forms::{named_form, plain_form, tailored_form};
+use forms::{named_form, simple_form, tailored_form};
 use made_sources::{Made, said};
 use std::alloc::Global;
 use std::process::Abort;
@@ -128,7 +128,7 @@ fn assert_lines(
         Some(over) => (Some(&over.table), &over.placed),
         None => (None, &[]),
     };
-    let wanted = told(rt, alloc, plain_form(rt, alloc, table, placed), lines, ids);
+    let wanted = told(rt, alloc, simple_form(rt, alloc, table, placed), lines, ids);
     let form = named_form(rt, alloc, table, placed, false);
     let one_by_one = told(rt, alloc, form, lines, ids);
     assert_text(rt, alloc, &one_by_one, &wanted);
@@ -294,7 +294,7 @@ fn assert_full(rt: &impl Abort, alloc: Global, declared: &str) {
     let text = source(rt, alloc, declared, "");
     let lines = said(rt, alloc, &text);
     drop(text);
-    let wanted = told(rt, alloc, plain_form(rt, alloc, None, &[]), &lines, &ids);
+    let wanted = told(rt, alloc, simple_form(rt, alloc, None, &[]), &lines, &ids);
     assert_named(rt, alloc, true, &lines, &ids, &wanted);
     assert_named(rt, alloc, false, &lines, &ids, &wanted);
     drop(wanted);

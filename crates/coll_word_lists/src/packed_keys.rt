@@ -4,7 +4,7 @@
 //! level. Nearly all of them fit 32 bits without the room that each rank has for code points; the others are kept as three numbers.
 //! Packed keys are compared like keys, as lists of numbers, and have their order.
 //!
-//! The plain form is the key itself; `packed_keys_are_ordered_alike` joins both.
+//! The simple form is the key itself; `packed_keys_are_ordered_alike` joins both.
 
 ghost use Rattle.std.specs.Prelude.{◌≡◌, ◌<◌, ◌≤◌, ◌+◌, [], ◌∷◌, ◌++◌, vec_len, vec_capacity, IfOk, MatchOption};
 ghost use Rattle.coll_word_lists.specs.PackedKeys.{packed_number, packed_above, packed_whole, packed_key, PackedKeysAreOrderedAlike};

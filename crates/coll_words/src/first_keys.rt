@@ -4,7 +4,7 @@
 //! of a text, with no list of them and none of whole numbers between. It is made so where the level is looked at from the front and
 //! has no positions, as mostly; else the whole key serves.
 //!
-//! The plain form are whole keys; both end in lines that are sorted (`AreSorted`).
+//! The simple form are whole keys; both end in lines that are sorted (`AreSorted`).
 
 ghost use Rattle.std.specs.Prelude.{◌≡◌, ◌≢◌, ◌≤◌, ◌+◌, ◌++◌, chars, map, true, false, vec_len, vec_capacity, IfOk, IfErr};
 ghost use Rattle.std.specs.List.{flat_map};

@@ -2,7 +2,8 @@
 //!
 //! The words of a list have few different numbers in their keys, some thirty in one script. Each of these gets a digit, in their order,
 //! so that the first digits of a key, a dozen of thirty, fit one number: its lead. Where the leads of two keys differ, the keys have the
-//! same order, and only of words with one lead the keys are looked at.
+//! same order, and only of words with one lead the keys are looked at, which is the simple form; `LeadsTo`, over digits that rise as the
+//! numbers do, joins both.
 
 ghost use Rattle.std.specs.Prelude.{◌≡◌, ◌<◌, ◌≤◌, ◌*◌, suc, ℕ, length, true, false, IfSome};
 ghost use Rattle.coll_ranks.specs.WeightNumbers.{rank_step};

@@ -4,7 +4,7 @@
 //! if it has a single one and no element begins with it, so that it takes one look-up. Else the row of its weights serves. What is left
 //! of a text at a character without a row, or where an element may begin, goes by the places of the table's entries.
 //!
-//! The plain form is `first_keys`, by ranks; both give the same (`Give`, `packed_first_key`).
+//! The simple form is `first_keys`, by ranks; both give the same (`Give`, `packed_first_key`).
 
 ghost use Rattle.std.specs.Prelude.{◌≡◌, ◌<◌, ◌≤◌, ◌+◌, ◌++◌, ◌∷◌, [], All, chars, false, true, length};
 ghost use Rattle.std.specs.Prelude.{vec_len, vec_capacity, IfOk, IfSome};

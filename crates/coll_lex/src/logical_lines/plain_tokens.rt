@@ -2,8 +2,8 @@
 //!
 //! A line that makes no token is faster by far: who reads it asks for one token after another, and each is lent from the line, as
 //! long as it is a symbol or a word with no escape in it, or a semicolon, up to the line's end or its comment. What is none of these
-//! is left to `feed`, which takes the line from its beginning. What a token is isn't stated here: each is that of the reading, proved
-//! from the moves of the scan.
+//! is left to `feed`, the simple form, which takes the line from its beginning. What a token is isn't stated here: each is that of the
+//! reading (`plain_reading`), proved from the moves of the scan, by which both are joined.
 
 ghost use Rattle.std.specs.Prelude.{◌≡◌, ◌<◌, ◌==◌, ◌||◌, ◌∷◌, ◌++◌, [], ◌+◌, length, false, true, chars, IsTrue, IsUtf8, None, Ok, Some, IfSome, IfNone};
 ghost use Rattle.std.specs.Bool.{OnTrue};

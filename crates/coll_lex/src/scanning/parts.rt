@@ -2,8 +2,8 @@
 //!
 //! A symbol with no escape in it, which nearly all are, becomes a token from the slice between its brackets, and is gathered
 //! nowhere; so does a word that a separator follows. Another word is put to the one so far as a slice. A comment ends the
-//! line, so nothing of it is looked at. All else is read by the moves of the modes, one character after another. Each part
-//! is proved from these moves, so what a line means is stated there alone.
+//! line, so nothing of it is looked at. All else is read by the moves of the modes, one character after another
+//! (`take_chars`), which is the simple form. The clause `TakesPart` joins both, so what a line means is stated there alone.
 
 ghost use Rattle.std.specs.Prelude.{◌≡◌, ◌≢◌, ◌==◌, ◌<◌, ◌≤◌, ◌&&◌, [], true, false, length, take, chars, IsTrue, OnOk, OnErr, IfOk, IfErr};
 ghost use Rattle.std.specs.List.{list_all};

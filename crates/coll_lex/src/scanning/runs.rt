@@ -2,7 +2,7 @@
 //!
 //! What makes the scan fast is here: a run is found by its bytes in the line that is there, with one test a byte, and is
 //! then taken as a slice. All bytes of a run are ASCII, so each is a character; whatever else stands in a line is read
-//! character by character.
+//! character by character, which is the simple form (`parts` chooses); `TakesPart` joins both.
 
 ghost use Rattle.std.specs.Prelude.{◌≡◌, ◌≤◌, length, take, true, IfSome};
 ghost use Rattle.std.specs.List.{list_all};

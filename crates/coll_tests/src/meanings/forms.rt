@@ -1,8 +1,8 @@
 //! The forms in which a source has a meaning, each with what it places: that of the test, and those of `coll_meanings`.
 
-use crate::meanings::plain_meanings::Meanings as PlainMeanings;
-use crate::meanings::plain_weights::{
-    WeightLookUp as PlainLookUp, without_symbol_weights as plain_without_symbol_weights,
+use crate::meanings::simple_meanings::Meanings as SimpleMeanings;
+use crate::meanings::simple_weights::{
+    WeightLookUp as SimpleLookUp, without_symbol_weights as simple_without_symbol_weights,
 };
 use coll_lookups::IdSet;
 use coll_meanings::{
@@ -57,15 +57,15 @@ pub trait Form: Drop {
     fn declared(&mut self) -> Result<Vec<SourceStatement>, AllocError>;
 }
 
-/// The plain form.
+/// The simple form.
 #[derive(Drop)]
-pub struct Plain {
-    meanings: PlainMeanings,
+pub struct Simple {
+    meanings: SimpleMeanings,
     placed: IdSet,
     alloc: Global,
 }
 
-impl Form for Plain {
+impl Form for Simple {
     fn take(&mut self, lines: &[SourceLine], report: &mut Report) -> Result<(), SourceFault> {
         self.meanings.take_all(lines, report)
     }
@@ -86,7 +86,7 @@ impl Form for Plain {
         report: &mut Report,
     ) -> Result<PlacedLine, SourceFault> {
         let fault = self.meanings.declare_placed(place, &line.id, report).err();
-        let line = plain_without_symbol_weights(&self.meanings, place, line, report)?;
+        let line = simple_without_symbol_weights(&self.meanings, place, line, report)?;
         let is_new = self.placed.put_free(&line.id)?;
         Ok((line, is_new, fault))
     }
@@ -97,7 +97,7 @@ impl Form for Plain {
         line: OrderLine,
         report: &mut Report,
     ) -> Result<WeighedLine, SourceFault> {
-        let look_up = PlainLookUp {
+        let look_up = SimpleLookUp {
             meanings: &self.meanings,
             placed: &self.placed,
             levels: LEVELS,
@@ -310,14 +310,14 @@ impl Form for Tailored<'_> {
     }
 }
 
-/// The plain form, over a table of which these are placed, if one is given.
-pub fn plain_form(rt: &impl Abort, alloc: Global, table: Option<&Table>, placed: &[Id]) -> Plain {
+/// The simple form, over a table of which these are placed, if one is given.
+pub fn simple_form(rt: &impl Abort, alloc: Global, table: Option<&Table>, placed: &[Id]) -> Simple {
     let keys = HashKeys::zeros();
     let meanings = match table {
-        Some(table) => PlainMeanings::of_table(alloc, keys, table).expect(rt, "meanings"),
-        None => PlainMeanings::new(alloc, keys),
+        Some(table) => SimpleMeanings::of_table(alloc, keys, table).expect(rt, "meanings"),
+        None => SimpleMeanings::new(alloc, keys),
     };
-    Plain {
+    Simple {
         meanings,
         placed: set_of(rt, alloc, placed),
         alloc,

@@ -9,10 +9,10 @@ use Rattle.coll_surveys.proofs.delta_surveys.tell_found.Goals as goal
 pub loop-fault-preserved : goal.loop-fault-preserved
 loop-fault-preserved c =
     let before = c.loop-fault.told.told.faults.items in
-    let after = c.tell.new.self.told.faults.items in
+    let after = c.tell_saying.new.self.told.faults.items in
     told_more c.args.told.now.told.faults.items before after (found_fault c.args.begins c.args.numbers.now) c.args.found.now c.loop-fault.fault-index c.fault-item.result c.loop-fault-test.true c.fault-item.is
     c.loop-fault.invariant
-    (subst (λ (at : ℕ). Tells before after (record { begins = c.args.begins; line = at; fault = fault.Table c.fault-item.result.refusal } ∷ [])) c.line_of-line.ensures c.in_ok-tell.ensures)
+    (subst (λ (at : ℕ). Tells before after (record { begins = c.args.begins; line = at; fault = fault.Table c.fault-item.result.refusal } ∷ [])) c.line_of-line.ensures c.in_ok-tell_saying.ensures)
 
 pub returns : goal.returns
 returns c =

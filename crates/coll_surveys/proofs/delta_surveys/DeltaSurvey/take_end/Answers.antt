@@ -6,4 +6,4 @@ use Rattle.coll_surveys.proofs.delta_surveys.DeltaSurvey.take_end.Goals as goal
 
 pub returns-in-None-clause-left : goal.returns-in-None-clause-left
 returns-in-None-clause-left c =
-    on_ok c.tell.result (none_ends (table_left c.args.self.now) c.args.self.now.block c.args.self.now.block c.in-None.is c.in-None.is)
+    on_ok c.tell_saying.result (none_ends (table_left c.args.self.now) c.args.self.now.block c.args.self.now.block c.in-None.is c.in-None.is)

@@ -1,6 +1,6 @@
-//! The weights of an entry, by what is placed and by own names: the plain form, with which the weights of `coll_meanings` are compared.
+//! The weights of an entry, by what is placed and by own names: the simple form, with which the weights of `coll_meanings` are compared.
 
-use crate::meanings::plain_meanings::Meanings;
+use crate::meanings::simple_meanings::Meanings;
 use coll_lex::ListBuf;
 use coll_lookups::IdSet;
 use coll_sources::{Adjustment, Lost, Report, SourceFault, SourcePlace};

@@ -1,4 +1,4 @@
-//! What each name of a source means, and what is declared: the plain form, with which the meanings of `coll_meanings` are compared.
+//! What each name of a source means, and what is declared: the simple form, with which the meanings of `coll_meanings` are compared.
 //!
 //! It keeps each name by itself, in one map, and copies what a table declares.
 //!
