@@ -140,7 +140,7 @@ fn table_advice(number: u8) -> Option<Advice>
     match number {
         30 => row(
             "NoCategory",
-            "write the line LC_COLLATE, with nothing but blanks or a comment behind it",
+            "write the line LC_COLLATE in UTF-8, with nothing but blanks or a comment behind it",
         ),
         31 => row("NoRules", "write order_start before the first entry"),
         32 => row(

@@ -19,5 +19,5 @@ mod requests;
 mod subcommands;
 mod tasks;
 
-pub use requests::{Request, Unasked, read_words};
+pub use requests::{Asked, Unasked, read_command_line};
 pub use tasks::Task;

@@ -16,7 +16,7 @@ use std::alloc::{AllocError, Global};
 
 /// What the words of a command line ask for.
 #[derive(Drop)]
-pub struct Request<'a> {
+pub struct Asked<'a> {
     /// What is done with the table, or with the source.
     pub task: Task,
     /// The names of the files: that of the table, if one is read, and then those of the delta files, in their order, and of the
@@ -36,7 +36,7 @@ pub enum Unasked {
 }
 
 /// Reads the words of a command line, of which the first is the program's name.
-pub fn read_words<'a>(alloc: Global, words: &'a [String]) -> Result<Request<'a>, Unasked>
+pub fn read_command_line<'a>(alloc: Global, words: &'a [String]) -> Result<Asked<'a>, Unasked>
     ensures task { IfOk result (λ request. Asks (named_by (map string_bytes words.now)) request.task) }
     ensures files { IfOk result (λ request. 0 < vec_len request.files) }
     ensures unasked { IfErr result (Says (takes command_line (map string_bytes words.now)) (named_by (map string_bytes words.now))) }
@@ -52,7 +52,7 @@ fn read_by<'a>(
     alloc: Global,
     command: &mut Command<'a>,
     words: &'a [String],
-) -> Result<Request<'a>, Unasked>
+) -> Result<Asked<'a>, Unasked>
     ensures task { app_of command.old ≡ command_line
         → IfOk result (λ request. Asks (named_by (map string_bytes words.now)) request.task) }
     ensures files { IfOk result (λ request. 0 < vec_len request.files) }
@@ -81,7 +81,7 @@ fn asked_for<'a>(
     alloc: Global,
     command: &mut Command<'a>,
     matches: &ArgMatches<'a>,
-) -> Result<Request<'a>, Unasked>
+) -> Result<Asked<'a>, Unasked>
     ensures task { IfOk result (λ request. Asks (subcommand_name_of matches.now) request.task) }
     ensures files { IfOk result (λ request. 0 < vec_len request.files) }
     ensures unasked { IfErr result (Says true (subcommand_name_of matches.now)) }
@@ -118,7 +118,7 @@ fn no_subcommand<'a>(command: &mut Command<'a>) -> Unasked
 fn request_of<'a>(
     alloc: Global,
     matches: &ArgMatches<'a>,
-) -> Result<Option<Request<'a>>, AllocError>
+) -> Result<Option<Asked<'a>>, AllocError>
     ensures task { IfOk result (λ asked. IfSome asked (λ request. Asks (subcommand_name_of matches.now) request.task)) }
     ensures files { IfOk result (λ asked. IfSome asked (λ request. 0 < vec_len request.files)) }
 {
@@ -138,13 +138,13 @@ fn request_of<'a>(
 fn request_on<'a>(
     task: Task,
     named: Result<Vec<&'a str>, AllocError>,
-) -> Result<Option<Request<'a>>, AllocError>
+) -> Result<Option<Asked<'a>>, AllocError>
     requires { IfOk named (λ files. 0 < vec_len files) }
     ensures task { IfOk result (λ asked. IfSome asked (λ request. request.task ≡ task)) }
     ensures files { IfOk result (λ asked. IfSome asked (λ request. 0 < vec_len request.files)) }
 {
     match named {
-        Ok(files) => Ok(Some(Request { task, files })),
+        Ok(files) => Ok(Some(Asked { task, files })),
         Err(refused) => Err(refused),
     }
 }

@@ -1,8 +1,8 @@
 -- How many statements stand in a file, counted from the first that remains, on into those that may be put again; and how many were
 -- read or written last, where all of them are still there (the project's own).
 use Rattle.std.specs.Prelude.{ℕ, ◌==◌, ◌-◌, min, nat_le, nat_lt, Bool, false, if◌then◌else◌, Option, Some, None}
-use Rattle.coll_edit.specs.declared.changes.Asked.{Asked}
-use Rattle.coll_edit.specs.declared.changes.Asked.TheVariants as asked
+use Rattle.coll_edit_messages.specs.declared.changes.Asked.{Asked}
+use Rattle.coll_edit_messages.specs.declared.changes.Asked.TheVariants as asked
 use Rattle.coll_edit.specs.declared.stored.Stored.{Stored}
 
 -- what stands there where that was noted, and else all of so many that remain

@@ -29,22 +29,19 @@ ghost use Rattle.coll_edit.specs.Watching.{device_of};
 
 mod own_answers;
 
-use crate::changes::{
-    Asked, PUT_AGAIN, TAKEN_BACK, Told, WITHDRAWN, asked_of, tell_statement, told_of,
-};
-use crate::copies::copied_statement;
 use crate::devices::OpensFiles;
-use crate::messages::{Hint, Origin, hint_for, tell_refusal, tell_unwritten, tell_words};
-use crate::notes::{IDLE, PERCENT, UNCHANGED, UNENDED, UNOPENED, tell_notes};
 use crate::own_lines::{OwnLine, own_line};
 use crate::stored::Stored;
-use crate::typed_lines::TypedLines;
 use crate::watched::Watched;
 use coll_advice::{Found, faults_of};
 use coll_bench::{
     BenchFault, Fault, RunFault, RunState, TakesStatements, read_delta, write_failed,
 };
 use coll_devices::{ReadStop, Sink, Source, WriteStop};
+use coll_edit_messages::{
+    Asked, Change, Hint, Note, Origin, Told, TypedLines, asked_of, copied_statement, hint_for,
+    tell_note, tell_notes, tell_refusal, tell_statement, tell_unwritten, tell_words, told_of,
+};
 use coll_findings::changes_nothing;
 use coll_lex::LexFault;
 use coll_requests::{Request, RequestAt, RequestFault, StatementAt};
@@ -348,13 +345,13 @@ impl Editor {
         }
         let now = self.run.session().remaining_len();
         match (asked, back) {
-            (Asked::Undo, Some(told)) if now < before => tell_statement(messages, TAKEN_BACK, told),
+            (Asked::Undo, Some(told)) if now < before => tell_statement(messages, Change::TakenBack, told),
             (Asked::Withdrawal(_), Some(told)) if now < before => {
-                tell_statement(messages, WITHDRAWN, told)
+                tell_statement(messages, Change::Withdrawn, told)
             }
             (Asked::Redo, _) if now > before => {
                 if let Some(told) = self.told_at(now) {
-                    tell_statement(messages, PUT_AGAIN, &told);
+                    tell_statement(messages, Change::PutAgain, &told);
                     drop(told);
                 }
             }
@@ -452,13 +449,13 @@ impl Editor {
             tell_refusal(messages, table, fault.number, origin, hint);
         }
         if was_open && self.typed.opens() {
-            tell_words(messages, UNENDED);
+            tell_note(messages, Note::Unended);
         }
         if !is_refused && self.typed.is_with_sign() {
-            tell_words(messages, PERCENT);
+            tell_note(messages, Note::PercentSign);
         }
         if !was_open && self.typed.is_idle() {
-            tell_words(messages, IDLE);
+            tell_note(messages, Note::Idle);
         }
         if is_open {
             self.tell_doubt(messages);
@@ -491,7 +488,7 @@ impl Editor {
         let table = self.run.session().table();
         let Some(number) = output.refusal() else {
             if remarks.is_idle {
-                tell_words(messages, UNCHANGED);
+                tell_note(messages, Note::Unchanged);
             } else if remarks.states {
                 self.tell_accepted(messages);
             }
@@ -520,7 +517,7 @@ impl Editor {
         let session = self.run.session();
         match session.remaining(session.remaining_len()) {
             Some(Statement::Reweight(_)) if self.typed.is_unopened() => {
-                tell_words(messages, UNOPENED)
+                tell_note(messages, Note::Unopened)
             }
             Some(statement) => tell_notes(messages, session.table(), statement),
             None => {}

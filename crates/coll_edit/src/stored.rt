@@ -8,7 +8,7 @@
 ghost use Rattle.std.specs.Prelude.{◌≡◌, ◌-◌, Some, max};
 ghost use Rattle.coll_edit.specs.Stored.{behind_request as stated_behind, behind_withdrawal as stated_withdrawal, is_last as stated_last, kept_to, stored_in};
 
-use crate::changes::Asked;
+use coll_edit_messages::Asked;
 
 /// How many statements stand in a file, from the first on.
 #[derive(Clone, Copy)]

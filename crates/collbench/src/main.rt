@@ -32,7 +32,7 @@ mod standard_input;
 mod words;
 
 use coll_bench::{Batch, Fault, RunFault, exit_status, read_inputs, run_batch_keyed, write_fault};
-use coll_command_line::{Request, Task, Unasked, read_words};
+use coll_command_line::{Asked, Task, Unasked, read_command_line};
 use coll_edit::Editor;
 use coll_lex::{Counted, LexFault, ReadStop, Sink, WriteStop};
 use coll_sources::SourceKind;
@@ -73,7 +73,7 @@ fn main(rt: HostRuntime) -> ExitCode {
     let Ok(words) = words.collect::<Vec<String>>(rt.alloc()) else {
         return tell_no_memory(&rt);
     };
-    match read_words(rt.alloc(), words.as_slice()) {
+    match read_command_line(rt.alloc(), words.as_slice()) {
         Ok(request) => obey(&rt, request),
         Err(Unasked::Told(text)) => tell(&rt, &text),
         Err(Unasked::Version) => tell_version(&rt),
@@ -82,10 +82,10 @@ fn main(rt: HostRuntime) -> ExitCode {
 }
 
 // Does what was asked for, under keys of this run, and answers the exit status.
-fn obey(rt: &HostRuntime, request: Request<'_>) -> ExitCode
+fn obey(rt: &HostRuntime, request: Asked<'_>) -> ExitCode
     requires { 0 < vec_len request.files }
 {
-    let Request { task, files } = request;
+    let Asked { task, files } = request;
     let Ok(names) = copied_names(rt.alloc(), files.as_slice()) else {
         return tell_no_memory(rt);
     };

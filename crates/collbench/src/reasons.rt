@@ -8,7 +8,7 @@ ghost use Rattle.coll_devices.specs.Counted.{device_of, errors_of, flushed_of};
 
 use crate::files::at_no_line;
 use coll_bench::{Fault, RunFault};
-use coll_edit::FileReason;
+use coll_edit_messages::FileReason;
 use coll_lex::{Counted, LexFault, Sink, Source};
 use std::io;
 use std::io::{BufWriter, ErrorKind, Read, Stdout, Write};

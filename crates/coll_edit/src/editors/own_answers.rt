@@ -15,12 +15,12 @@ ghost use Rattle.coll_edit.specs.Watching.{device_of};
 
 use crate::devices::OpensFiles;
 use crate::editors::{Editor, Next};
-use crate::messages::{Origin, Unwritten, tell_unwritten};
 use crate::own_lines::OwnLine;
 use crate::stored::Stored;
 use crate::watched::Watched;
 use coll_bench::{Fault, RunFault};
 use coll_devices::{ReadStop, Sink, WriteStop};
+use coll_edit_messages::{Origin, Unwritten, tell_unwritten};
 use coll_edit_replies::{
     are_few, flush, write_count, write_help, write_number_help, write_refusal, write_shown,
     write_statements, write_words,

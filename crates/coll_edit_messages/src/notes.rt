@@ -20,7 +20,7 @@ const MOST_NOTES: u64 = 5;
 
 /// Tells of a statement that was accepted which lines give weights for few levels, and which entries stand where they don't sort, over
 /// the table behind it.
-pub(crate) fn tell_notes<M: Sink>(messages: &mut M, table: &Table, statement: &Statement) {
+pub fn tell_notes<M: Sink>(messages: &mut M, table: &Table, statement: &Statement) {
     match statement {
         Statement::Block { lines, .. } => {
             tell_lacking(messages, table, lines.get());
@@ -277,21 +277,49 @@ fn tell_others<M: Sink>(messages: &mut M, others: u64) {
     );
 }
 
-/// What is told of a block that ended without `reorder-end`, since another one begins.
-pub(crate) const UNENDED: &[u8] =
+/// What is noted of a line, or of a statement as a whole.
+#[derive(Clone, Copy)]
+pub enum Note {
+    /// A block ended without `reorder-end`, since another one begins.
+    Unended,
+    /// An order line gave weights where no block was opened.
+    Unopened,
+    /// An order line begins with `%`.
+    PercentSign,
+    /// A line has no effect.
+    Idle,
+    /// A statement leaves the table as it is.
+    Unchanged,
+}
+
+impl Note {
+    // Its line: what a lint warns of is in the words of a lint.
+    fn line(self) -> &'static [u8] {
+        match self {
+            Note::Unended => UNENDED,
+            Note::Unopened => UNOPENED,
+            Note::PercentSign => PERCENT,
+            Note::Idle => IDLE,
+            Note::Unchanged => UNCHANGED,
+        }
+    }
+}
+
+/// Tells a note.
+pub fn tell_note<M: Sink>(messages: &mut M, note: Note) {
+    tell_words(messages, note.line());
+}
+
+const UNENDED: &[u8] =
     b"note: the block before has no reorder-end: it ended where this one begins, and the reply is its own\n";
 
-/// What is told of an order line where no block was opened.
-pub(crate) const UNOPENED: &[u8] =
+const UNOPENED: &[u8] =
     b"note: no block is open, since the line that was to open it was refused: this gave the entry other weights where it stands (:undo takes it back)\n";
 
-/// What is told of an order line that begins with `%`, in the words of a lint.
-pub(crate) const PERCENT: &[u8] =
+const PERCENT: &[u8] =
     b"note: % begins no comment here, but is a character; behind a line comment_char % it does\n";
 
-/// What is told of a line that has no effect.
-pub(crate) const IDLE: &[u8] =
+const IDLE: &[u8] =
     b"note: this line has no effect here: a source with copy goes through collbench import or import-delta\n";
 
-/// What is told of a statement that leaves the table as it is, in the words of a lint.
-pub(crate) const UNCHANGED: &[u8] = b"note: this changes nothing: the table is so already\n";
+const UNCHANGED: &[u8] = b"note: this changes nothing: the table is so already\n";

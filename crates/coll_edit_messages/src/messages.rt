@@ -3,7 +3,7 @@
 //! Replies go to standard output, and what stands here is for a person. A message that can't be written is left out: it ends nothing,
 //! and no fault of a session counts it.
 
-use crate::devices::FileReason;
+use crate::file_reasons::FileReason;
 use crate::typed_lines::{TypedLines, Wish};
 use coll_advice::{Found, advice_of, nearest_name, nearest_section, write_advice};
 use coll_devices::{Sink, WriteStop};
@@ -36,14 +36,14 @@ const BLOCK_OPEN: u8 = 62;
 const UNKNOWN_COMMAND: u8 = 64;
 
 /// Tells these words.
-pub(crate) fn tell_words<M: Sink>(messages: &mut M, words: &[u8]) {
+pub fn tell_words<M: Sink>(messages: &mut M, words: &[u8]) {
     let _ = write_pieces(messages, &[Piece::Bytes(words)]);
     let _ = messages.flush();
 }
 
 /// What of the statements that remain stands in no file.
 #[derive(Clone, Copy)]
-pub(crate) enum Unwritten {
+pub enum Unwritten {
     /// They are those that were read or written last.
     Nothing,
     /// Each of them stands in a file, and there are others in what was read or written last.
@@ -60,7 +60,7 @@ impl Unwritten {
 }
 
 /// Tells what of the statements that remain stands in no file, and what may be done while the edit goes on.
-pub(crate) fn tell_unwritten<M: Sink>(messages: &mut M, unwritten: Unwritten, ended: bool) {
+pub fn tell_unwritten<M: Sink>(messages: &mut M, unwritten: Unwritten, ended: bool) {
     match (unwritten, ended) {
         (Unwritten::Nothing, _) => return,
         (Unwritten::TakenBack, false) => tell_words(messages, FILE_HAS_MORE),
@@ -103,7 +103,7 @@ const SOME_LOST: &[u8] = b" statements stand in no file, and are lost\n";
 
 /// Where a refusal comes from.
 #[derive(Clone, Copy)]
-pub(crate) enum Origin<'a> {
+pub enum Origin<'a> {
     /// The line that was replied to.
     Here,
     /// A line of the block that is open, by its number there, from 1.
@@ -120,7 +120,7 @@ pub(crate) enum Origin<'a> {
 
 /// What to do, where more is known than the number of a refusal.
 #[derive(Clone, Copy)]
-pub(crate) enum Hint<'a> {
+pub enum Hint<'a> {
     /// No more is.
     Nothing,
     /// This command is meant.
@@ -148,7 +148,7 @@ pub(crate) enum Hint<'a> {
 }
 
 /// What to do about a refusal of the line that was typed last, with a number.
-pub(crate) fn hint_for(typed: &TypedLines, number: u8) -> Hint<'_> {
+pub fn hint_for(typed: &TypedLines, number: u8) -> Hint<'_> {
     match typed.wish() {
         Wish::Help if is_of_word(number) => Hint::Meant(":help"),
         Wish::End if is_of_word(number) => Hint::Meant(":quit"),
@@ -192,7 +192,7 @@ fn is_of_word(number: u8) -> bool {
 }
 
 /// Tells what a refusal says, by its number: where it comes from, what it is about, and what to do.
-pub(crate) fn tell_refusal<M: Sink>(
+pub fn tell_refusal<M: Sink>(
     messages: &mut M,
     table: &Table,
     number: u8,

@@ -9,7 +9,7 @@ use coll_syntax::{OrderLine, Statement};
 use std::alloc::{AllocError, Global};
 
 /// A copy of a statement, in new memory.
-pub(crate) fn copied_statement(
+pub fn copied_statement(
     alloc: Global,
     statement: &Statement,
 ) -> Result<Statement, AllocError>

@@ -38,7 +38,7 @@ enum TypedLine {
 
 /// What a line asks for that is asked for otherwise.
 #[derive(Clone, Copy)]
-pub(crate) enum Wish {
+pub enum Wish {
     /// Nothing of these.
     Nothing,
     /// The help: `help`, or `?` alone.
@@ -80,7 +80,7 @@ const LONGEST_COMMAND: usize = 16;
 
 /// A fault of a line that no reply tells where the line is typed.
 #[derive(Clone, Copy)]
-pub(crate) struct LineFault {
+pub struct LineFault {
     /// Its line in the block, from 1; none for a line that opens a block or ends one.
     pub line: Option<usize>,
     /// Its number.
@@ -89,7 +89,7 @@ pub(crate) struct LineFault {
 
 /// The lines that were typed: the last one, and what was told of the block that is open.
 #[derive(Drop)]
-pub(crate) struct TypedLines {
+pub struct TypedLines {
     lexer: Lexer,
     last: TypedLine,
     wish: Wish,

@@ -14,7 +14,7 @@ use std::alloc::Global;
 
 /// What the reply to a block will tell of a line.
 #[derive(Drop)]
-pub(crate) struct Doubt {
+pub struct Doubt {
     /// The number of the refusal.
     pub number: u8,
     /// What it is about.

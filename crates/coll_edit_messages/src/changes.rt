@@ -13,7 +13,7 @@ use std::alloc::Global;
 
 /// What a request asks of the history.
 #[derive(Clone, Copy)]
-pub(crate) enum Asked {
+pub enum Asked {
     /// Nothing.
     Nothing,
     /// That a statement is put behind those that remain.
@@ -27,7 +27,7 @@ pub(crate) enum Asked {
 }
 
 /// What a request asks of the history, if there is one.
-pub(crate) fn asked_of(request: &Option<RequestAt>) -> Asked {
+pub fn asked_of(request: &Option<RequestAt>) -> Asked {
     match request {
         Some(request) => match &request.request {
             Request::Statement(_) => Asked::Statement,
@@ -42,7 +42,7 @@ pub(crate) fn asked_of(request: &Option<RequestAt>) -> Asked {
 
 /// What is told of a statement.
 #[derive(Drop)]
-pub(crate) enum Told {
+pub enum Told {
     /// A block, by its target and the number of its lines.
     Block(Id, usize),
     /// Another one, whole.
@@ -50,7 +50,7 @@ pub(crate) enum Told {
 }
 
 /// What is told of a statement; nothing where memory is refused.
-pub(crate) fn told_of(alloc: Global, statement: &Statement) -> Option<Told> {
+pub fn told_of(alloc: Global, statement: &Statement) -> Option<Told> {
     match statement {
         Statement::Block { target, lines } => match target.clone() {
             Ok(target) => Some(Told::Block(target, lines.get().len())),
@@ -63,17 +63,31 @@ pub(crate) fn told_of(alloc: Global, statement: &Statement) -> Option<Told> {
     }
 }
 
-/// The words that tell of a statement that was taken back.
-pub(crate) const TAKEN_BACK: &[u8] = b"note: taken back: ";
+/// What became of a statement.
+#[derive(Clone, Copy)]
+pub enum Change {
+    /// It was taken back.
+    TakenBack,
+    /// It was put again.
+    PutAgain,
+    /// It was withdrawn, and no `:redo` puts it again.
+    Withdrawn,
+}
 
-/// The words that tell of one that was withdrawn, which no `:redo` puts again.
-pub(crate) const WITHDRAWN: &[u8] = b"note: withdrawn for good: ";
+impl Change {
+    // The words before the statement.
+    fn words(self) -> &'static [u8] {
+        match self {
+            Change::TakenBack => b"note: taken back: ",
+            Change::PutAgain => b"note: put again: ",
+            Change::Withdrawn => b"note: withdrawn for good: ",
+        }
+    }
+}
 
-/// The words that tell of one that was put again.
-pub(crate) const PUT_AGAIN: &[u8] = b"note: put again: ";
-
-/// Tells a statement behind these words.
-pub(crate) fn tell_statement<'a, M: Sink>(messages: &mut M, words: &'a [u8], told: &'a Told) {
+/// Tells what became of a statement.
+pub fn tell_statement<'a, M: Sink>(messages: &mut M, change: Change, told: &'a Told) {
+    let words = change.words();
     match told {
         Told::Block(target, count) => {
             let lines: &[u8] = if *count == 1 {
