@@ -179,7 +179,8 @@ impl DeltaSurvey {
         ensures left { OnOk result (delta_state self.new ≡ left_passed (delta_state self.old) line.now.number opening) }
     {
         let about = refused_subject(self.alloc, line, fault)?;
-        self.unopened = self.unopened || is_opening(&about);
+        let opens = is_opening(&about);
+        self.unopened = opens || self.unopened;
         tell_refused(line, fault, about, &mut self.told)?;
         self.pass_over(line.number, opening)
     }
