@@ -39,6 +39,7 @@ TAILORS = "a source that changes a table, as by reorder-after, goes through coll
 ORDERS = "a source with an order of its own, from order_start, goes through collbench import SOURCE"
 NO_LONGER = "# begins no comment here, since a line comment_char chose another character"
 NO_COMMENT = "% begins no comment here; behind a line comment_char % it does"
+LINT = "collbench lint tells all that is wrong"
 READ_FAULT = "look at the file's name, its rights, and the device"
 WRITE_FAULT = "look at the device, and run it again: what was written is a prefix"
 
@@ -211,9 +212,9 @@ RUNS = [
      "fault": "t.txt:3: 34 NotDeclared", "below": ["  3 | <BASE>", "    | ^^^^^^", NOT_DECLARED]},
     {"shows": "a line that a session refuses", "words": ["session", "base.txt"], "input": "<BASF>\n", "fault": None, "below": [], "status": 0},
     {"shows": "an edit that is refused at its table", "words": ["edit", "t.txt"], "files": {"t.txt": table("<BASE>")},
-     "fault": "t.txt:3: 34 NotDeclared", "below": ["  3 | <BASE>", "    | ^^^^^^", NOT_DECLARED]},
+     "fault": "t.txt:3: 34 NotDeclared", "below": ["  3 | <BASE>", "    | ^^^^^^", NOT_DECLARED, LINT]},
     {"shows": "an edit that is refused at a delta file", "words": ["edit", "base.txt", "c_behind_a.txt", "d.txt"], "files": {"d.txt": block("<U0062>", "<BASF>")},
-     "fault": "d.txt:2: 34 NotDeclared", "below": ["  4 | <BASF>", "    | ^^^^^^", f"{NOT_DECLARED}; is <BASE> meant?"]},
+     "fault": "d.txt:2: 34 NotDeclared", "below": ["  4 | <BASF>", "    | ^^^^^^", f"{NOT_DECLARED}; is <BASE> meant?", LINT]},
     {"shows": "an edit of a file that isn't there", "words": ["edit", "none.txt"], "fault": "none.txt:0: 67 ReadFault",
      "below": [f"there is no such file: {READ_FAULT}"], "status": 2},
     {"shows": "a lint, which stays as it is", "words": ["lint", "none.txt"], "fault": "none.txt:0: 67 ReadFault: there is no such file", "below": [], "status": 2},

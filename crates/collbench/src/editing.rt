@@ -8,8 +8,9 @@ ghost use Rattle.std.specs.Prelude.{◌≡◌, ◌<◌, length, IfErr};
 use crate::files::{Input, at_no_line, open_all};
 use crate::progress::ProgressLine;
 use crate::reasons::{ReasonedOutput, reason_of, reasoned_output};
+use crate::refusals::tell_of_lint;
 use crate::standard_input::ServesLines;
-use crate::{read_at, tell_fault_line};
+use crate::{read_at, tell_fault, tell_fault_line};
 use coll_bench::{Fault, RunFault};
 use coll_edit::{Editor, OpensFiles, Watched, edit_lines};
 use coll_edit_messages::FileReason;
@@ -77,6 +78,13 @@ impl ServesLines for Editor {
         let ran = edit_standard_input(rt, &mut self);
         drop(self);
         ran
+    }
+
+    // An edit begins with files without fault alone, so what finds all faults is told too.
+    fn tell_unserved(rt: &HostRuntime, fault: &RunFault, names: &[String]) -> ExitCode {
+        let status = tell_fault(rt, fault, names);
+        tell_of_lint(rt, fault);
+        status
     }
 
     // What an edit says beside a fault stands in its replies.

@@ -107,6 +107,13 @@ pub(crate) fn tell_below(rt: &HostRuntime, fault: &RunFault, names: &[String]) {
     }
 }
 
+/// Tells below a fault of a text by what others are told.
+pub(crate) fn tell_of_lint(rt: &HostRuntime, fault: &RunFault) {
+    if fault.line > 0 && rt.stderr().is_terminal() {
+        let _ = eprintln!(rt; "collbench lint tells all that is wrong");
+    }
+}
+
 /// Tells below the line of a fault of these sources what stands there, and what to do. What the first of them copies lies in this folder.
 pub(crate) fn tell_below_source(
     rt: &HostRuntime,

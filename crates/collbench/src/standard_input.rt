@@ -30,6 +30,13 @@ pub(crate) trait ServesLines: Drop {
     fn serve(self, rt: &HostRuntime, line: &ProgressLine<'_>) -> Result<(), RunFault>
         ensures { IfErr result (λ fault. fault.input ≡ 0) };
 
+    /// Tells a fault of one of the files with these names, and answers the exit status.
+    fn tell_unserved(rt: &HostRuntime, fault: &RunFault, names: &[String]) -> ExitCode
+        requires { fault.now.input < length names.now }
+    {
+        tell_fault(rt, fault, names)
+    }
+
     /// Tells a fault of the lines, which are an input with one of these names, and answers the exit status.
     fn tell_served(rt: &HostRuntime, fault: &RunFault, names: &[String]) -> ExitCode
         requires { fault.now.input < length names.now }
@@ -83,7 +90,7 @@ fn serve_by<S: ServesLines>(
         Err(fault) => {
             line.hide();
             drop(name);
-            tell_fault(rt, &fault, names)
+            S::tell_unserved(rt, &fault, names)
         }
     }
 }
