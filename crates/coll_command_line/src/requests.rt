@@ -115,10 +115,7 @@ fn no_subcommand<'a>(command: &mut Command<'a>) -> Unasked
 }
 
 // What the words that were found ask for; nothing where a word is missing, which `command` rules out.
-fn request_of<'a>(
-    alloc: Global,
-    matches: &ArgMatches<'a>,
-) -> Result<Option<Asked<'a>>, AllocError>
+fn request_of<'a>(alloc: Global, matches: &ArgMatches<'a>) -> Result<Option<Asked<'a>>, AllocError>
     ensures task { IfOk result (λ asked. IfSome asked (λ request. Asks (subcommand_name_of matches.now) request.task)) }
     ensures files { IfOk result (λ asked. IfSome asked (λ request. 0 < vec_len request.files)) }
 {

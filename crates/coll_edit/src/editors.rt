@@ -345,7 +345,11 @@ impl Editor {
         }
         let now = self.run.session().remaining_len();
         match (asked, back) {
-            (Asked::Undo, Some(told)) if now < before => tell_statement(messages, Change::TakenBack, told),
+            (Asked::Undo, Some(told)) if now < before => tell_statement(
+                messages,
+                Change::TakenBack,
+                told,
+            ),
             (Asked::Withdrawal(_), Some(told)) if now < before => {
                 tell_statement(messages, Change::Withdrawn, told)
             }

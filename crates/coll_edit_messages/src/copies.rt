@@ -9,10 +9,7 @@ use coll_syntax::{OrderLine, Statement};
 use std::alloc::{AllocError, Global};
 
 /// A copy of a statement, in new memory.
-pub fn copied_statement(
-    alloc: Global,
-    statement: &Statement,
-) -> Result<Statement, AllocError>
+pub fn copied_statement(alloc: Global, statement: &Statement) -> Result<Statement, AllocError>
     ensures { IfOk result (λ copy. copy ≡ statement.now) }
 {
     match statement {
