@@ -62,6 +62,7 @@ FILE_HAD_MORE = "note: the file that was read or written last has statements tha
 FILE_HAS_MORE = f"{FILE_HAD_MORE} (:write FILE); another :quit leaves it so"
 SOME_UNWRITTEN = "note: 2 statements stand in no file (:write FILE); another :quit drops them"
 UNCHANGED = "note: this changes nothing: the table is so already"
+REFUSED = "note: nothing of the block was done"
 NO_END = "note: the block before has no reorder-end: it ended where this one begins, and the reply is its own"
 # Each session: the words behind the program, the steps, what stands on the screen at the end, and the files that are there then.
 SESSIONS = [
@@ -75,10 +76,11 @@ SESSIONS = [
             (":words words.txt", "* ac\n* ab\n* c\n* b\n* d\nwords 5\n> "),
             ("reorder-after <U0061>", "block> "),
             ("<BASF>", "note: 34 NotDeclared <BASF>: declare it with collating-symbol; is <BASE> meant?\nblock> "),
-            ("reorder-end", "refused 34 NotDeclared\nline 1 of the block: 34 NotDeclared <BASF>: declare it with collating-symbol; is <BASE> meant?\n> "),
+            ("reorder-end", "refused 34 NotDeclared\nline 1 of the block: 34 NotDeclared <BASF>: declare it with collating-symbol; is <BASE> meant?\n"
+             f"{REFUSED}\n> "),
             ("reorder-after b", "block> "),
-            ("d d,d", "line 1 of the block: 29 BadOperand: compare with how the line is spelled: quotes stand around strings alone; weights are parted by ;, and a range (..) has to be written out\nblock> "),
-            ("reorder-end", "refused 29 BadOperand\n> "),
+            ("d d,d", "line 1 of the block: 29 BadOperand: part weights by ;, not by a comma\nblock> "),
+            ("reorder-end", f"refused 29 BadOperand\n{REFUSED}\n> "),
             ("quit", "refused 20 UnknownStatement\n20 UnknownStatement: is :quit meant?\n> "),
             (":write new.txt", "written 1\n> "),
             (":write new.txt", "refused 68 WriteFault\n68 WriteFault new.txt: a file with this name is there already\n> "),
@@ -126,14 +128,17 @@ SESSIONS = [
             ("reorder-after <BASF>", f"note: {NOT_PLACED_TARGET}\nblock> "),
             ("a <BASE>;<MIM>", "note: 34 NotDeclared <MIM>: declare it with collating-symbol; is <MIN> meant?\nblock> "),
             ("f <BASE>;f", "block> "),
-            ("reorder-end", f"refused 50 TargetNotPlaced\n{NOT_PLACED_TARGET}\n> "),
+            ("<BASE> <MIN>", "note: 36 SymbolWithWeights <BASE>: drop the weights, also a semicolon alone\nblock> "),
+            ("d a;a;a;a;<X>", "note: 37 TooManyWeights <U0064>: drop what goes beyond the levels of the table, which are four at most\nblock> "),
+            ("reorder-end", f"refused 50 TargetNotPlaced\n{NOT_PLACED_TARGET}\n{REFUSED}\n> "),
             ("reorder-after f", "note: 50 TargetNotPlaced <U0066>: place the target first, or name one that is placed\nblock> "),
             ("reorder-after a", "refused 50 TargetNotPlaced\n50 TargetNotPlaced <U0066>: place the target first, or name one that is placed\n"
-             f"{NO_END}\nblock> "),
+             f"{NO_END}\n{REFUSED}\nblock> "),
             ("<X>", "note: 34 NotDeclared <X>: declare it with collating-symbol\nblock> "),
             ("c", "block> "),
             ("<X>", "note: 34 NotDeclared <X>: declare it with collating-symbol\nblock> "),
-            ("reorder-end", "refused 34 NotDeclared\nline 1 of the block: 34 NotDeclared <X>: declare it with collating-symbol\n> "),
+            ("reorder-end", "refused 34 NotDeclared\nline 1 of the block: 34 NotDeclared <X>: declare it with collating-symbol\n"
+             f"{REFUSED}\n> "),
             ("<X>", "refused 34 NotDeclared\n34 NotDeclared <X>: declare it with collating-symbol\n> "),
         ],
         END,

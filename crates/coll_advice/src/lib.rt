@@ -11,7 +11,7 @@
 //! - `sentences` and `spelled_names`: the name and the sentence of each number (`FaultNumbers`), and of what isn't declared what its
 //!   spelling shows;
 //! - `near_names`, `near_sections`, `edits` and `texts`: the declared name, and the name of a section, that is nearest to another
-//!   (`NearNames`);
+//!   (`NearNames`); `meant_names`: which of them a fault by its number may be about (`MeantNames`);
 //! - `advice_lines`: what is written of a fault behind its number and name (`AdviceLines`).
 #![tactic(auto)]
 
@@ -21,6 +21,7 @@ mod edits;
 mod found;
 mod identifiers;
 mod lines;
+mod meant_names;
 mod near_names;
 mod near_sections;
 mod sentences;
@@ -31,6 +32,7 @@ mod texts;
 pub use advice_lines::write_advice;
 pub use found::Found;
 pub use identifiers::{copied_own_id, is_placed};
+pub use meant_names::{may_be_mistyped, meant_name};
 pub use near_names::{is_near, nearest_name};
 pub use near_sections::nearest_section;
 pub use sentences::{Advice, advice_of};

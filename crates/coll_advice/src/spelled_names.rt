@@ -59,9 +59,9 @@ fn by_spelling(name: &str, sentence: &'static str) -> &'static str {
     sentence
 }
 
-// Whether a name is that of a code point elsewhere: `U` or `U+` and hexadecimal digits alone. With four to eight digits behind `U` it is
-// no name here.
-fn is_code_point(name: &str) -> bool {
+/// Whether a name is that of a code point elsewhere: `U` or `U+` and hexadecimal digits alone. With four to eight digits behind `U` it is
+/// no name here.
+pub(crate) fn is_code_point(name: &str) -> bool {
     let bytes = name.as_bytes();
     match bytes {
         [b'U' | b'u', b'+', digits @ ..] => are_digits(digits),

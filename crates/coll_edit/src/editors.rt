@@ -236,6 +236,7 @@ impl Editor {
                 let completes = request.is_some();
                 let served = self.serve_request(line, request, output, messages, files, prompts);
                 let is_refused = output.refusal().is_some();
+                self.tell_block(was_open, completes, is_refused, messages, prompts);
                 self.tell_line(was_open, completes, is_refused, messages);
                 served
             }
@@ -430,8 +431,29 @@ impl Editor {
         }
     }
 
-    // Tells the fault of the line that was taken where no reply tells it there, and what there is to note of it: that it ended a block
-    // which has no `reorder-end`, begins with `%`, or has no effect, or what the reply to its block will say of it.
+    // Tells of a block that the line which was taken ended that it had no `reorder-end`, if another one begins, and a person that it was
+    // refused.
+    fn tell_block<M: Sink>(
+        &self,
+        was_open: bool,
+        completes: bool,
+        is_refused: bool,
+        messages: &mut M,
+        prompts: bool,
+    ) {
+        if !was_open || !completes || !self.typed.may_end_block() {
+            return;
+        }
+        if self.run.is_open() {
+            tell_note(messages, Note::Unended);
+        }
+        if is_refused && prompts {
+            tell_note(messages, Note::Refused);
+        }
+    }
+
+    // Tells the fault of the line that was taken where no reply tells it there, and what there is to note of it: that it begins with `%`,
+    // or has no effect, or what the reply to its block will say of it.
     fn tell_line<M: Sink>(
         &mut self,
         was_open: bool,
@@ -451,9 +473,6 @@ impl Editor {
                 None => Origin::Here,
             };
             tell_refusal(messages, table, fault.number, origin, hint);
-        }
-        if was_open && self.typed.opens() {
-            tell_note(messages, Note::Unended);
         }
         if !is_refused && self.typed.is_with_sign() {
             tell_note(messages, Note::PercentSign);

@@ -1,12 +1,12 @@
 //! What is wrong with a line of a block whatever its other lines say.
 //!
-//! The reply to a block tells it, where the block ends. A person is told of it where the line is typed: that a target has no place, or
-//! that a name isn't declared, since no line of a block declares one. What is found is for standard error alone, and changes no reply;
-//! where memory is refused, nothing is found.
+//! The reply to a block tells it, where the block ends. A person is told of it where the line is typed: that a target has no place, that
+//! a name isn't declared, since no line of a block declares one, or that a symbol has weights, or an entry too many. What is found is for
+//! standard error alone, and changes no reply; where memory is refused, nothing is found.
 
 ghost use Rattle.coll_lex.specs.Names.{AreTokens};
 
-use coll_advice::{Found, faults_of};
+use coll_advice::{Found, copied_own_id, faults_of};
 use coll_lex::{Line, ListBuf};
 use coll_syntax::{DeltaLine, Id, OrderLine, Statement, Weight, parse_delta_line};
 use coll_table::{Refusal, Table};
@@ -28,7 +28,7 @@ pub(crate) fn doubt_about(alloc: Global, table: &Table, line: &Line) -> Option<D
     match parse_delta_line(alloc, line) {
         Ok(DeltaLine::ReorderAfter(target)) => doubt_about_target(alloc, table, target),
         Ok(DeltaLine::Order(order)) => {
-            let doubt = doubt_about_order(table, &order);
+            let doubt = doubt_about_order(alloc, table, &order);
             drop(order);
             doubt
         }
@@ -74,17 +74,36 @@ fn doubt_of(found: &Found) -> Option<Doubt> {
     })
 }
 
-// The first name of an order line that isn't declared.
-fn doubt_about_order(table: &Table, order: &OrderLine) -> Option<Doubt> {
+// What is wrong with an order line: its own name, its weights as they are given, or the first name among them that isn't declared.
+fn doubt_about_order(alloc: Global, table: &Table, order: &OrderLine) -> Option<Doubt> {
     if !is_declared(table, &order.id) {
-        return undeclared(&order.id);
+        return refused_for(Refusal::NotDeclared, &order.id);
     }
-    for weight in order.weights.as_ref()?.get() {
+    let weights = order.weights.as_ref()?.get();
+    if is_symbol(alloc, table, &order.id) {
+        return refused_for(Refusal::SymbolWithWeights, &order.id);
+    }
+    if weights.len() > table.rules().len() {
+        return refused_for(Refusal::TooManyWeights, &order.id);
+    }
+    for weight in weights {
         if let Some(id) = undeclared_in(table, weight) {
-            return undeclared(id);
+            return refused_for(Refusal::NotDeclared, id);
         }
     }
     None
+}
+
+// Whether an identifier is the name of a symbol, its own or a second one.
+fn is_symbol(alloc: Global, table: &Table, id: &Id) -> bool {
+    match copied_own_id(alloc, table, id) {
+        Ok(own) => {
+            let is_symbol = table.is_symbol(&own);
+            drop(own);
+            is_symbol
+        }
+        Err(_) => false,
+    }
 }
 
 // The first name of a weight that isn't declared.
@@ -108,11 +127,11 @@ fn is_declared(table: &Table, id: &Id) -> bool {
     }
 }
 
-// What is told of a name that isn't declared.
-fn undeclared(id: &Id) -> Option<Doubt> {
+// What is told of a line that is refused so for an identifier.
+fn refused_for(refusal: Refusal, id: &Id) -> Option<Doubt> {
     let id = id.clone().ok()?;
     Some(Doubt {
-        number: Refusal::NotDeclared.number(),
+        number: refusal.number(),
         id,
     })
 }

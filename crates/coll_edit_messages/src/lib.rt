@@ -2,13 +2,14 @@
 //!
 //! So no theorem of a run speaks of it, and what is told is shown by tests. A way through the crate:
 //!
-//! - `typed_lines`: what a typed line is by itself, so that its fault is told where it is typed; `doubts`: what is wrong with a line of a
-//!   block whatever its other lines say;
+//! - `typed_lines`: what a typed line is by itself, so that its fault is told where it is typed; `commands`: which command is meant, and
+//!   how it is written; `doubts`: what is wrong with a line of a block whatever its other lines say;
 //! - `messages`: prompts, and the sentence behind a refusal, with `file_reasons`;
-//! - `notes`: what is told of an accepted statement; `changes`: of one that is taken back or put again, of which `copies` are kept.
+//! - `notes`: what is told of a statement that does less than it seems to; `changes`: of one that is taken back or put again, of which `copies` are kept.
 #![tactic(auto)]
 
 mod changes;
+mod commands;
 mod copies;
 mod doubts;
 mod file_reasons;

@@ -5,9 +5,9 @@
 
 use crate::file_reasons::FileReason;
 use crate::typed_lines::{TypedLines, Wish};
-use coll_advice::{Found, advice_of, nearest_name, nearest_section, write_advice};
+use coll_advice::{Found, advice_of, meant_name, write_advice};
 use coll_devices::{Sink, WriteStop};
-use coll_findings::ForeignWord;
+use coll_findings::{FOLLOWS_OPENING, ForeignWord};
 use coll_syntax::Id;
 use coll_table::Table;
 use coll_texts::{Piece, write_pieces};
@@ -21,12 +21,6 @@ const EXTRA_OPERAND: u8 = 22;
 
 const BAD_OPERAND: u8 = 29;
 
-const NOT_DECLARED: u8 = 34;
-
-const TARGET_NOT_PLACED: u8 = 50;
-
-const NO_SUCH_SECTION: u8 = 52;
-
 const NOT_PLACED: u8 = 54;
 
 const NO_WEIGHTS: u8 = 55;
@@ -34,6 +28,8 @@ const NO_WEIGHTS: u8 = 55;
 const BLOCK_OPEN: u8 = 62;
 
 const UNKNOWN_COMMAND: u8 = 64;
+
+const NO_BLOCK: u8 = 69;
 
 /// Tells these words.
 pub fn tell_words<M: Sink>(messages: &mut M, words: &[u8]) {
@@ -125,7 +121,7 @@ pub enum Hint<'a> {
     Nothing,
     /// This command is meant.
     Meant(&'static str),
-    /// The end was asked for in an open block.
+    /// The end was asked for in an open block, or that something is undone.
     OpenBlock,
     /// `%` stands where a comment does in many sources.
     Comment,
@@ -135,8 +131,8 @@ pub enum Hint<'a> {
     Name(&'a str),
     /// The line begins with this keyword of another dialect.
     Foreign(ForeignWord),
-    /// The line is a command with other operands than it has.
-    Spelling,
+    /// The line was meant for a block, and the line was refused that was to open it.
+    Follows,
     /// The line asks for a number that no fault has.
     NoFault,
     /// The line asks what something means that is no number.
@@ -152,7 +148,7 @@ pub fn hint_for(typed: &TypedLines, number: u8) -> Hint<'_> {
     match typed.wish() {
         Wish::Help if is_of_word(number) => Hint::Meant(":help"),
         Wish::End if is_of_word(number) => Hint::Meant(":quit"),
-        Wish::EndHere if number == BLOCK_OPEN => Hint::OpenBlock,
+        Wish::Leave if number == BLOCK_OPEN => Hint::OpenBlock,
         Wish::Comment if is_of_word(number) => Hint::Comment,
         Wish::Comment if number == EXTRA_OPERAND || number == BAD_OPERAND => Hint::Comment,
         Wish::Foreign(word) if number == UNKNOWN_STATEMENT => Hint::Foreign(word),
@@ -163,22 +159,30 @@ pub fn hint_for(typed: &TypedLines, number: u8) -> Hint<'_> {
     }
 }
 
-// What to do about such a refusal by the names of the line, or since it is a command.
+// What to do about such a refusal by the names of the line, by how it is written, or since no block was opened.
 fn hint_by_words(typed: &TypedLines, number: u8) -> Hint<'_> {
     match typed.name() {
         Some(name) if number == UNKNOWN_STATEMENT || number == BAD_OPERAND => Hint::Name(name),
-        _ if typed.is_command() && is_of_spelling(number) => Hint::Spelling,
+        _ if typed.is_unopened() && is_of_block(number) => Hint::Follows,
         _ => match typed.written(number) {
-            Some(written) => Hint::Written(written),
-            None if number == UNKNOWN_STATEMENT => Hint::Unknown,
-            None => Hint::Nothing,
+            Some(written) if is_of_spelling(number) => Hint::Written(written),
+            _ if number == UNKNOWN_STATEMENT => Hint::Unknown,
+            _ => Hint::Nothing,
         },
     }
 }
 
-// Whether a command is refused for its operands.
+// Whether a line is refused for its words.
 fn is_of_spelling(number: u8) -> bool {
-    number == MISSING_OPERAND || number == EXTRA_OPERAND || number == BAD_OPERAND
+    matches!(
+        number,
+        UNKNOWN_STATEMENT | MISSING_OPERAND | EXTRA_OPERAND | BAD_OPERAND
+    )
+}
+
+// Whether a line is refused as one may be that was meant for a block, where none is open.
+fn is_of_block(number: u8) -> bool {
+    matches!(number, NOT_PLACED | NO_WEIGHTS | NO_BLOCK)
 }
 
 // Whether a line is refused since nothing begins so.
@@ -231,7 +235,7 @@ fn write_told<M: Sink>(
         Hint::NeededBy(number) => write_needed(messages, number),
         Hint::Name(name) => write_meant(messages, Piece::Symbol(name)),
         Hint::Foreign(word) => write_foreign(messages, word),
-        Hint::Spelling => write_pieces(messages, &[Piece::Bytes(SPELLING)]),
+        Hint::Follows => write_following(messages, origin),
         Hint::NoFault => write_pieces(messages, &[Piece::Bytes(NO_FAULT)]),
         Hint::NoNumber => write_pieces(messages, &[Piece::Bytes(NO_NUMBER)]),
         Hint::Unknown => write_pieces(messages, &[Piece::Bytes(UNKNOWN)]),
@@ -239,15 +243,12 @@ fn write_told<M: Sink>(
     }
 }
 
-// How an open block is left by whoever asks for the end there.
+// How an open block is left by whoever asks for the end there, or undoes something.
 const OPEN_BLOCK: &[u8] =
     b": end the block by reorder-end, and take it back by :undo if the reply is ok; the end of the input, Ctrl-D at a terminal, drops it and ends the edit\n";
 
 // What a line says that was meant as a comment.
 const NO_COMMENT: &[u8] = b": % begins no comment here; behind a line comment_char % it does\n";
-
-// Where a command is looked up.
-const SPELLING: &[u8] = b": look with :help how the command is spelled\n";
 
 // What is told of a number that no fault has.
 const NO_FAULT: &[u8] = b": no refusal has this number\n";
@@ -286,6 +287,14 @@ fn write_foreign<M: Sink>(messages: &mut M, word: ForeignWord) -> Result<(), Wri
     write_said(messages, word.ours)
 }
 
+// Writes what a refusal is about that comes from no line of a block, since none was opened, and that it follows from that.
+fn write_following<M: Sink>(messages: &mut M, origin: Origin<'_>) -> Result<(), WriteStop> {
+    if let Some(id) = subject(origin) {
+        write_pieces(messages, &[Piece::Bytes(b" "), Piece::Id(id)])?;
+    }
+    write_said(messages, FOLLOWS_OPENING)
+}
+
 // Writes which statement needs the one that was to be withdrawn.
 fn write_needed<M: Sink>(messages: &mut M, number: u32) -> Result<(), WriteStop> {
     write_pieces(
@@ -307,24 +316,33 @@ fn write_advised<M: Sink>(
     number: u8,
     origin: Origin<'_>,
 ) -> Result<(), WriteStop> {
-    let id = match origin {
-        Origin::Unopened(name, reason) => {
-            return write_pieces(
-                messages,
-                &[
-                    Piece::Bytes(b" "),
-                    Piece::Bytes(name.as_bytes()),
-                    Piece::Bytes(b": "),
-                    Piece::Bytes(reason.words().as_bytes()),
-                    Piece::Bytes(b"\n"),
-                ],
-            );
-        }
+    if let Origin::Unopened(name, reason) = origin {
+        return write_pieces(
+            messages,
+            &[
+                Piece::Bytes(b" "),
+                Piece::Bytes(name.as_bytes()),
+                Piece::Bytes(b": "),
+                Piece::Bytes(reason.words().as_bytes()),
+                Piece::Bytes(b"\n"),
+            ],
+        );
+    }
+    let id = subject(origin);
+    let near = match id {
+        Some(id) => meant_name(table, number, id),
+        None => None,
+    };
+    write_advice(messages, number, id, near)
+}
+
+// The identifier that a refusal is about, if it is known.
+fn subject<'a>(origin: Origin<'a>) -> Option<&'a Id> {
+    match origin {
         Origin::Found(found) => found.id.as_ref(),
         Origin::Id(id) => Some(id),
-        Origin::Here | Origin::Block(_) | Origin::File(..) => None,
-    };
-    write_advice(messages, number, id, near(table, number, id))
+        _ => None,
+    }
 }
 
 // Writes where a refusal comes from, if that is not the line that was replied to: a line of a block by its number there, from 1.
@@ -356,18 +374,4 @@ fn write_origin<M: Sink>(messages: &mut M, origin: Origin<'_>) -> Result<(), Wri
             Piece::Bytes(b" of the block: "),
         ],
     )
-}
-
-// The name that is near to one that is refused so, if one is: a declared one, or that of a section.
-fn near<'a>(table: &'a Table, number: u8, id: Option<&Id>) -> Option<&'a str> {
-    let Some(Id::Named(name)) = id else {
-        return None;
-    };
-    if number == NO_SUCH_SECTION {
-        return nearest_section(table, name.get());
-    }
-    if number == NOT_DECLARED || number == TARGET_NOT_PLACED {
-        return nearest_name(table, name.get());
-    }
-    None
 }

@@ -1,12 +1,12 @@
-//! What a person is told of a statement that is accepted, and does less than it seems to.
+//! What a person is told of a statement that does less than it seems to, accepted or not.
 //!
 //! Nothing of it is a fault, and no reply tells it: it goes to standard error behind the reply, and changes none. An entry may stand
 //! where it doesn't sort (`is_misplaced`): it is told with which weights it does. Where it weighs alike the entry before it but for the
 //! letter, that letter's symbol may be moved as well, which takes all along that weigh as the same; others would turn a letter and what
 //! varies it round. A symbol, which has no weights, is put behind a symbol. A line may give weights for few levels, and weigh as itself at
 //! the others. A statement may leave the table as it is, and `copy` and `script` do. A line may begin with `%`, which begins no comment.
-//! A block that another one ends has no `reorder-end`, which may have been forgotten. And where the line was refused that was to open a
-//! block, an order line gives weights, and moves nothing.
+//! A block that another one ends has no `reorder-end`, which may have been forgotten. Where the line was refused that was to open a
+//! block, an order line gives weights, and moves nothing. And of a block that is refused, for whichever line, nothing is done.
 
 use crate::messages::tell_words;
 use coll_devices::Sink;
@@ -282,6 +282,8 @@ fn tell_others<M: Sink>(messages: &mut M, others: u64) {
 pub enum Note {
     /// A block ended without `reorder-end`, since another one begins.
     Unended,
+    /// A block was refused, whole.
+    Refused,
     /// An order line gave weights where no block was opened.
     Unopened,
     /// An order line begins with `%`.
@@ -297,6 +299,7 @@ impl Note {
     fn line(self) -> &'static [u8] {
         match self {
             Note::Unended => UNENDED,
+            Note::Refused => REFUSED,
             Note::Unopened => UNOPENED,
             Note::PercentSign => PERCENT,
             Note::Idle => IDLE,
@@ -312,6 +315,8 @@ pub fn tell_note<M: Sink>(messages: &mut M, note: Note) {
 
 const UNENDED: &[u8] =
     b"note: the block before has no reorder-end: it ended where this one begins, and the reply is its own\n";
+
+const REFUSED: &[u8] = b"note: nothing of the block was done\n";
 
 const UNOPENED: &[u8] =
     b"note: no block is open, since the line that was to open it was refused: this gave the entry other weights where it stands (:undo takes it back)\n";

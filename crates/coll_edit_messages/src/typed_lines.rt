@@ -3,13 +3,13 @@
 //! A session answers an open block where it ends, with the first fault that spoiled it. A person is told of each line at fault once,
 //! and at once. So each line is read here as well, by a lexer of its own, which reads what the session's does. What is found is for
 //! standard error alone, and changes no reply; where memory is refused, nothing is found. A word that other programs take for `:help`
-//! or `:quit` is found here too, a command that is mistyped or has no colon, `%`, with which comments of many sources begin, a declared
-//! name without its brackets, a keyword of another dialect, and what the reply to a block will say of a line (`doubts`).
+//! or `:quit` is found here too, a command that is mistyped or has no colon (`commands`), `%`, with which comments of many sources begin,
+//! a declared name without its brackets, a keyword of another dialect, and what the reply to a block will say of a line (`doubts`).
 
 ghost use Rattle.coll_lex.specs.Names.{AreTokens};
 
+use crate::commands::{command_meant, form_of};
 use crate::doubts::{Doubt, doubt_about};
-use coll_advice::is_near;
 use coll_findings::{ForeignWord, advice_on_operands, foreign_word};
 use coll_lex::{LexFault, Lexer, Line, TextBuf, Token};
 use coll_requests::RequestFault;
@@ -45,8 +45,8 @@ pub enum Wish {
     Help,
     /// The end: `quit`, `exit`, or `q` alone.
     End,
-    /// The end, by `:quit`, which no open block takes.
-    EndHere,
+    /// The end, by `:quit`, or that something is undone, by `:undo`, which no open block takes.
+    Leave,
     /// A comment, by `%`, where that begins none.
     Comment,
     /// What another dialect has a keyword for.
@@ -54,29 +54,6 @@ pub enum Wish {
     /// This command, which is mistyped or has no colon.
     Command(&'static str),
 }
-
-// The commands, of those that begin alike the one first that its first letter is to mean, and the longest word that is looked up among
-// them.
-const COMMANDS: &[&str] = &[
-    ":undo",
-    ":redo",
-    ":help",
-    ":history",
-    ":delta",
-    ":write",
-    ":words",
-    ":withdraw",
-    ":show",
-    ":key",
-    ":compare",
-    ":check",
-    ":explain",
-    ":list",
-    ":print",
-    ":quit",
-];
-
-const LONGEST_COMMAND: usize = 16;
 
 /// A fault of a line that no reply tells where the line is typed.
 #[derive(Clone, Copy)]
@@ -95,11 +72,13 @@ pub struct TypedLines {
     wish: Wish,
     // The first declared name that the last line has without its brackets, where it may be refused for that.
     name: Option<TextBuf>,
-    // How the last line is written, where its fault is one of its operands.
+    // How the last line is written, where its fault is one of its operands, or it is a command.
     written: Option<&'static str>,
     // What the reply to the block will say of the last line.
     doubt: Option<Doubt>,
-    // Whether a line was refused that was to open a block, and only order lines came since.
+    // Whether a line was refused that was to open a block, and only order lines came between it and the last line; and the same of the
+    // line that comes next.
+    was_unopened: bool,
     unopened: bool,
     // How many lines the block has, those at fault too.
     lines: usize,
@@ -118,6 +97,7 @@ impl TypedLines {
             name: None,
             written: None,
             doubt: None,
+            was_unopened: false,
             unopened: false,
             lines: 0,
             first: None,
@@ -132,8 +112,8 @@ impl TypedLines {
         self.written = None;
         drop(self.name.take());
         drop(self.doubt.take());
+        self.was_unopened = self.unopened;
         self.read_next(alloc, table, line, prompts);
-        self.unopened = self.is_unopened_behind();
     }
 
     // Reads one more physical line, of which nothing was found yet.
@@ -142,12 +122,11 @@ impl TypedLines {
             Ok(Some(line)) => {
                 self.last = line_of(alloc, &line);
                 self.wish = wish_of(&line);
+                self.unopened = self.is_unopened_behind(&line);
                 if may_lack_brackets(self.last, &line) {
                     self.name = bare_name(table, &line);
                 }
-                if let TypedLine::Fault(number) = self.last {
-                    self.written = advice_on_operands(&line, number);
-                }
+                self.written = written_of(self.last, &line);
                 if prompts {
                     self.doubt = doubt_about(alloc, table, &line);
                 }
@@ -158,11 +137,14 @@ impl TypedLines {
         }
     }
 
-    // Whether a line was refused that was to open a block, and only order lines came since, the last line included.
-    fn is_unopened_behind(&self) -> bool {
+    // Whether a line was refused that was to open a block, and only order lines came since, the last line, which is this, included.
+    fn is_unopened_behind(&self, line: &Line) -> bool {
         match (self.last, self.wish) {
-            (TypedLine::Fault(_), Wish::Foreign(word)) => self.unopened || word.opens_block(),
-            (TypedLine::Fault(_) | TypedLine::Order | TypedLine::Nothing, _) => self.unopened,
+            (TypedLine::Fault(_), Wish::Foreign(word)) => {
+                word.opens_block() || (self.unopened && !word.ends_block())
+            }
+            (TypedLine::Fault(_), _) => self.unopened && !ends_block(line),
+            (TypedLine::Order | TypedLine::Nothing, _) => self.unopened,
             _ => false,
         }
     }
@@ -172,9 +154,9 @@ impl TypedLines {
         self.doubt.as_ref()
     }
 
-    /// Whether a line was refused that was to open a block, and only order lines came since.
+    /// Whether a line was refused that was to open a block, and only order lines came between it and the last line.
     pub fn is_unopened(&self) -> bool {
-        self.unopened
+        self.was_unopened
     }
 
     /// What the last line asks for that is asked for otherwise.
@@ -190,17 +172,21 @@ impl TypedLines {
         }
     }
 
-    /// How the last line is written, where it is refused with this number for its operands.
+    /// How the last line is written, where it is refused with this number for its operands, or is a command.
     pub fn written(&self, number: u8) -> Option<&'static str> {
         match self.last {
             TypedLine::Fault(fault) if fault == number => self.written,
+            TypedLine::Command => self.written,
             _ => None,
         }
     }
 
-    /// Whether the last line is a command.
-    pub fn is_command(&self) -> bool {
-        matches!(&self.last, TypedLine::Command)
+    /// Whether the last line may end a block: it opens one or ends one, accepted or refused.
+    pub fn may_end_block(&self) -> bool {
+        matches!(
+            &self.last,
+            TypedLine::Opening | TypedLine::Ending | TypedLine::Fault(_)
+        )
     }
 
     /// Whether the last line is an order line that begins with `%`, as one that is meant as a comment.
@@ -211,11 +197,6 @@ impl TypedLines {
     /// Whether the last line has no effect outside of a block.
     pub fn is_idle(&self) -> bool {
         matches!(&self.last, TypedLine::Idle)
-    }
-
-    /// Whether the last line begins a block.
-    pub fn opens(&self) -> bool {
-        matches!(&self.last, TypedLine::Opening)
     }
 
     /// Whether the first fault that was told of the block has this number.
@@ -295,6 +276,15 @@ fn line_of(alloc: Global, line: &Line) -> TypedLine
     }
 }
 
+// How a line is written that is refused for its operands, or is a command.
+fn written_of(typed: TypedLine, line: &Line) -> Option<&'static str> {
+    match typed {
+        TypedLine::Fault(number) => advice_on_operands(line, number),
+        TypedLine::Command => form_of(line.tokens.get().first()?),
+        _ => None,
+    }
+}
+
 // What a line asks for that is asked for otherwise.
 fn wish_of(line: &Line) -> Wish {
     let tokens = line.tokens.get();
@@ -303,7 +293,7 @@ fn wish_of(line: &Line) -> Wish {
     };
     match wish_by(word, rest.is_empty()) {
         Wish::Nothing if has_comment(tokens) => Wish::Comment,
-        Wish::Nothing => match foreign_word(word) {
+        Wish::Nothing => match foreign_word(tokens) {
             Some(word) => Wish::Foreign(word),
             None => wish_for(command_meant(word)),
         },
@@ -313,8 +303,8 @@ fn wish_of(line: &Line) -> Wish {
 
 // What a word asks for, which begins a line or stands alone in it. A character alone is an order line elsewhere.
 fn wish_by(word: &Token, alone: bool) -> Wish {
-    if is_word(word, ":quit") {
-        return Wish::EndHere;
+    if is_word(word, ":quit") || is_word(word, ":undo") {
+        return Wish::Leave;
     }
     if is_word(word, "help") || (alone && is_word(word, "?")) {
         return Wish::Help;
@@ -333,33 +323,6 @@ fn wish_for(command: Option<&'static str>) -> Wish {
     }
 }
 
-// The command that a word with a colon is near to or begins, or that one without a colon lacks it for.
-fn command_meant(word: &Token) -> Option<&'static str> {
-    let Token::Word(word) = word else {
-        return None;
-    };
-    if word.get().len() > LONGEST_COMMAND {
-        return None;
-    }
-    for command in COMMANDS {
-        if is_meant(command, word.get()) {
-            return Some(*command);
-        }
-    }
-    None
-}
-
-// Whether a command is meant by a word, which isn't the command.
-fn is_meant(command: &str, word: &str) -> bool {
-    if word.starts_with(':') {
-        return command != word && (command.starts_with(word) || is_near(command, word));
-    }
-    match command.strip_prefix(':') {
-        Some(name) => name.eq_ignore_ascii_case(word),
-        None => false,
-    }
-}
-
 // Whether a line may be refused since a name has no brackets: one that the grammar refuses, or `:show`.
 fn may_lack_brackets(typed: TypedLine, line: &Line) -> bool {
     match typed {
@@ -369,6 +332,14 @@ fn may_lack_brackets(typed: TypedLine, line: &Line) -> bool {
             None => false,
         },
         _ => false,
+    }
+}
+
+// Whether a line begins as one that ends a block.
+fn ends_block(line: &Line) -> bool {
+    match line.tokens.get().first() {
+        Some(word) => is_word(word, "reorder-end"),
+        None => false,
     }
 }
 

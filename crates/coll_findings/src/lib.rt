@@ -28,7 +28,7 @@ mod warnings;
 pub use collecting::{Collected, Surveyed, Told};
 pub use findings::{About, FoundFault};
 pub use first_weights::{first_weight, is_misplaced, lead_of, weighs_as};
-pub use foreign_words::{ForeignWord, foreign_word};
+pub use foreign_words::{FOLLOWS_OPENING, ForeignWord, foreign_word};
 pub use line_surveys::{Opening, TakesLines, first_line, survey_keywords, survey_lines};
 pub use missing_weights::lacks_weights;
 pub use operand_advice::advice_on_operands;

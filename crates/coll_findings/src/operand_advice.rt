@@ -7,6 +7,7 @@
 use crate::foreign_words::foreign_word;
 use coll_advice::is_near;
 use coll_lex::{Line, Token};
+use coll_syntax::is_word;
 
 // The numbers of a line that nothing begins, of an operand that is missing, of one too many, and of one of the wrong kind.
 const UNKNOWN_STATEMENT: u8 = 20;
@@ -19,6 +20,9 @@ const BAD_OPERAND: u8 = 29;
 
 // What to write in place of a weight that is a word.
 const NAMED: &str = "write a name between < and >, and part weights by ;";
+
+// What to write in place of a comma among weights.
+const SEMICOLON: &str = "part weights by ;, not by a comma";
 
 // What to write in place of a name that begins a line.
 const BRACKETED: &str = "write a name between < and >";
@@ -86,14 +90,15 @@ const SPELLED: &[(&str, &str)] = &[
 
 /// How a line is written that is refused with this number, where that says more than the number.
 pub fn advice_on_operands(line: &Line, number: u8) -> Option<&'static str> {
-    let (first, operands) = line.tokens.get().split_first()?;
+    let tokens = line.tokens.get();
+    let (first, operands) = tokens.split_first()?;
     match number {
-        UNKNOWN_STATEMENT => advice_on_first(first),
+        UNKNOWN_STATEMENT => advice_on_first(first, tokens),
         MISSING_OPERAND => written_with(first),
         EXTRA_OPERAND => written_with(first).or(advice_on_sign(first)),
         BAD_OPERAND => written_with(first)
             .or(advice_on_sign(first))
-            .or(advice_on_weights(operands)),
+            .or(advice_on_weights(first, operands)),
         _ => None,
     }
 }
@@ -120,10 +125,10 @@ fn advice_on_sign(first: &Token) -> Option<&'static str> {
     }
 }
 
-// What is said of a first word that begins no line: of a comment, of letters, and of a name.
-fn advice_on_first(first: &Token) -> Option<&'static str> {
+// What is said of the first word of a line, where it begins none: of a comment, of letters, and of a name.
+fn advice_on_first(first: &Token, tokens: &[Token]) -> Option<&'static str> {
     match first {
-        Token::Word(word) if are_letters(word.get().as_bytes()) => match foreign_word(first) {
+        Token::Word(word) if are_letters(word.get().as_bytes()) => match foreign_word(tokens) {
             Some(_) => None,
             None => Some(DECLARED),
         },
@@ -150,10 +155,14 @@ fn are_letters(word: &[u8]) -> bool {
         || (word.len() <= MOST_LETTERS && word.iter().all(u8::is_ascii_alphabetic))
 }
 
-// What is said of the first word among weights that is of several characters, and doesn't ignore.
-fn advice_on_weights(operands: &[Token]) -> Option<&'static str> {
+// What is said of the first comma among weights, or word of several characters that doesn't ignore; nothing of rules, which commas join.
+fn advice_on_weights(first: &Token, operands: &[Token]) -> Option<&'static str> {
+    if is_word(first, "order_start") {
+        return None;
+    }
     for token in operands {
         match token {
+            Token::Comma => return Some(SEMICOLON),
             Token::Word(word) if word.get() != IGNORED && word.get().chars().nth(1).is_some() => {
                 return advice_on_word(word.get());
             }

@@ -48,10 +48,10 @@ pub fn refused_subject(
 
 // What a line is about of which the first token begins no line.
 fn unknown_subject(alloc: Global, line: &Line) -> Result<About, AllocError> {
-    let first = line.tokens.get().first();
-    match first.and_then(foreign_word) {
+    let tokens = line.tokens.get();
+    match foreign_word(tokens) {
         Some(word) => Ok(About::Word(word)),
-        None => token_subject(alloc, first),
+        None => token_subject(alloc, tokens.first()),
     }
 }
 

@@ -75,6 +75,11 @@ impl Declarations {
         self.mentioned.insert(id)
     }
 
+    /// Whether an order line had this identifier.
+    pub fn has_mentioned(&self, id: &Id) -> bool {
+        self.mentioned.contains(id)
+    }
+
     /// Warns of the names that were declared and that neither have an entry nor stood on an order line.
     pub fn warn_of_unplaced(&self, table: &Table, told: &mut Collected) -> Result<(), AllocError>
         ensures { told.new.told.faults ≡ told.old.told.faults }

@@ -4,21 +4,12 @@
 ghost use Rattle.std.specs.Prelude.{◌≡◌, length, map, OnOk};
 ghost use Rattle.coll_lint.specs.Orders.{bare_fault, bare_subject};
 
-use coll_advice::{nearest_name, nearest_section};
+use coll_advice::{may_be_mistyped, meant_name};
 use coll_findings::{About, FoundFault};
 use coll_lex::TextBuf;
 use coll_syntax::Id;
 use coll_table::Table;
 use std::alloc::{AllocError, Global};
-
-// The number of what isn't declared.
-const NOT_DECLARED: u8 = 34;
-
-// The number of a target that has no entry.
-const TARGET_NOT_PLACED: u8 = 50;
-
-// The number of a section that isn't there.
-const NO_SUCH_SECTION: u8 = 52;
 
 // Most faults for which a name is looked for, since each of them takes a look at all names.
 const MOST_SOUGHT: usize = 20;
@@ -49,16 +40,11 @@ fn seek_in_turn(
     ensures { OnOk result (bare_fault found.new ≡ bare_fault found.old) }
 {
     let number = found.fault.fault.number();
-    if sought >= MOST_SOUGHT || !is_of_name(number) {
+    if sought >= MOST_SOUGHT || !may_be_mistyped(number) {
         return Ok(sought);
     }
     seek_near(alloc, table, number, &mut found.about)?;
     Ok(sought.saturating_add(1))
-}
-
-// Whether a fault with this number may be about a name that is mistyped.
-fn is_of_name(number: u8) -> bool {
-    matches!(number, NOT_DECLARED | TARGET_NOT_PLACED | NO_SUCH_SECTION)
 }
 
 // Gives what a fault with this number is about the name that is nearest, where one is near.
@@ -79,19 +65,9 @@ fn fill_near(
     id: &Id,
     near: &mut Option<TextBuf>,
 ) -> Result<(), AllocError> {
-    let Id::Named(name) = id else {
-        return Ok(());
-    };
-    let found = match number {
-        NO_SUCH_SECTION => nearest_section(table, name.get()),
-        _ => nearest_name(table, name.get()),
-    };
-    match found {
-        Some(found) => {
-            let found = TextBuf::copied(alloc, found)?;
-            drop(near.replace(found));
-            Ok(())
-        }
-        None => Ok(()),
+    if let Some(meant) = meant_name(table, number, id) {
+        let meant = TextBuf::copied(alloc, meant)?;
+        drop(near.replace(meant));
     }
+    Ok(())
 }

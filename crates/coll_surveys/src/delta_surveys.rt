@@ -7,7 +7,8 @@
 //!
 //! Of a statement without fault it warns where it changes nothing, and of lines whose entries don't sort where they
 //! stand; of lines without effect; and of what is declared and never placed. Where the line is refused that was to open a block, it is
-//! said of the faults of the lines behind it that they follow from that.
+//! said of the faults of the lines behind it that they follow from that; and so it is where a weight names a
+//! symbol that a refused line or block was to place.
 
 ghost use Rattle.std.specs.Prelude.{◌≡◌, ◌∷◌, [], map, Some, IfOk, IfSome, OnOk, option_map};
 ghost use Rattle.coll_nodes.specs.TableLayout.{collation};
@@ -27,9 +28,9 @@ use crate::open_blocks::{EndedBlock, OpenBlock, line_of};
 use coll_advice::{Found, faults_of};
 use coll_faults::Fault;
 use coll_findings::{
-    About, Collected, Declarations, DeclaredName, Opening, Surveyed, TakesLines, Warning,
-    about_found, advice_on_operands, changed_nothing, is_misplaced, lacks_weights, refused_subject,
-    survey_lines,
+    About, Collected, Declarations, DeclaredName, FOLLOWS_OPENING, Opening, Surveyed, TakesLines,
+    Warning, about_found, advice_on_operands, changed_nothing, is_misplaced, lacks_weights,
+    refused_subject, survey_lines,
 };
 use coll_lex::{EarlyEnd, LexFault, Line, Piece, TextBuf, Token};
 use coll_lookups::HashKeys;
@@ -46,16 +47,16 @@ struct DeltaSurvey {
     declarations: Declarations,
     // The block that is open.
     block: Option<OpenBlock>,
-    // Whether a line was refused that was to open a block, and none was opened or ended since.
+    // Whether a line was refused that was to open a block, and none was opened or ended since, nor was to be ended.
     unopened: bool,
 }
 
 // The name by which published tailorings copy the table of ISO/IEC 14651.
 const COMMON_TABLE: &str = "iso14651_t1";
 
-// What is said of a fault of a line that was meant for a block.
-const FOLLOWS: &str =
-    "it follows from the line that was to open a block and is refused: mend that one first";
+// What is said where a weight names what stood on an order line and has no entry, so that the line or its block was refused.
+const FOLLOWS_PLACING: &str =
+    "it follows from the line or the block that was to place it and is refused: mend that one first";
 
 /// Surveys a delta file, which is input 1, over a table.
 ///
@@ -156,7 +157,10 @@ impl DeltaSurvey {
     {
         match opening {
             Opening::Block => self.open_block(number, None),
-            Opening::BlockEnd => self.end_block(),
+            Opening::BlockEnd => {
+                self.unopened = false;
+                self.end_block()
+            }
             Opening::Other => match &mut self.block {
                 Some(block) => {
                     block.spoiled = true;
@@ -179,8 +183,7 @@ impl DeltaSurvey {
         ensures left { OnOk result (delta_state self.new ≡ left_passed (delta_state self.old) line.now.number opening) }
     {
         let about = refused_subject(self.alloc, line, fault)?;
-        let opens = is_opening(&about);
-        self.unopened = opens || self.unopened;
+        self.unopened = is_unopened_behind(self.unopened, &about);
         tell_refused(line, fault, about, &mut self.told)?;
         self.pass_over(line.number, opening)
     }
@@ -260,11 +263,11 @@ impl DeltaSurvey {
             (end_faults (table_left self.old) (block_left self.old) number)) }
         ensures left { OnOk result (delta_state self.new ≡ closed (delta_state self.old)) }
     {
+        let said = said_behind(self.unopened);
+        self.unopened = false;
         match self.block {
             Some(_) => self.end_block(),
             None => {
-                let said = said_behind(self.unopened);
-                self.unopened = false;
                 self.told
                     .tell_saying(number, number, Fault::NoBlock, About::Nothing, said)
             }
@@ -399,6 +402,7 @@ impl DeltaSurvey {
             block.numbers.as_slice(),
             found,
             false,
+            &self.declarations,
             &mut self.told,
         )?;
         if left {
@@ -424,7 +428,14 @@ impl DeltaSurvey {
             self.put(number, statement, &[], in_block)?;
             return Ok(true);
         }
-        let told = tell_found(number, &[], found.as_slice(), self.unopened, &mut self.told);
+        let told = tell_found(
+            number,
+            &[],
+            found.as_slice(),
+            self.unopened,
+            &self.declarations,
+            &mut self.told,
+        );
         drop(found);
         told?;
         Ok(false)
@@ -536,11 +547,12 @@ fn spells(pieces: &[Piece], text: &str) -> bool {
     letters.next().is_none()
 }
 
-// Whether what a line is about that was refused is a keyword in place of that which opens a block.
-fn is_opening(about: &About) -> bool {
+// Whether a line was refused that was to open a block, and none that was to end one came since, behind a line that was refused and is
+// about this; before it that was so.
+fn is_unopened_behind(unopened: bool, about: &About) -> bool {
     match about {
-        About::Word(word) => word.opens_block(),
-        About::Nothing | About::Id { .. } => false,
+        About::Word(word) => word.opens_block() || (unopened && !word.ends_block()),
+        About::Nothing | About::Id { .. } => unopened,
     }
 }
 
@@ -583,6 +595,7 @@ fn tell_found(
     numbers: &[u32],
     found: &[Found],
     unopened: bool,
+    declarations: &Declarations,
     told: &mut Collected,
 ) -> Result<(), AllocError>
     ensures { OnOk result (Tells told.old.told.faults.items told.new.told.faults.items (map (found_fault begins numbers.now) found.now)) }
@@ -590,16 +603,20 @@ fn tell_found(
     for fault in found {
         let about = about_found(fault)?;
         let line = line_of(begins, numbers, fault);
-        let said = said_of(fault.refusal, unopened);
+        let said = said_of(fault, unopened, declarations);
         told.tell_saying(begins, line, Fault::Table(fault.refusal), about, said)?;
     }
     Ok(())
 }
 
-// What is said of a refusal beside its number: where no block was opened, that lines are at fault which a block would take.
-fn said_of(refusal: Refusal, unopened: bool) -> Option<&'static str> {
-    match refusal {
-        Refusal::NotPlaced | Refusal::NoWeights => said_behind(unopened),
+// What is said of what was found beside its number: where no block was opened, that lines are at fault which a block would take, and
+// that a weight names a symbol that a refused line was to place, by its own name.
+fn said_of(found: &Found, unopened: bool, declarations: &Declarations) -> Option<&'static str> {
+    match (found.refusal, &found.id) {
+        (Refusal::NotPlaced | Refusal::NoWeights, _) => said_behind(unopened),
+        (Refusal::WeightNotPlaced, Some(id)) if declarations.has_mentioned(id) => {
+            Some(FOLLOWS_PLACING)
+        }
         _ => None,
     }
 }
@@ -607,7 +624,7 @@ fn said_of(refusal: Refusal, unopened: bool) -> Option<&'static str> {
 // What is said of a fault of a line that belongs to a block, where none was opened.
 fn said_behind(unopened: bool) -> Option<&'static str> {
     if unopened {
-        return Some(FOLLOWS);
+        return Some(FOLLOWS_OPENING);
     }
     None
 }

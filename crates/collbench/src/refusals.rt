@@ -11,7 +11,7 @@
 use crate::random_keys::random_keys;
 use crate::reasons::told_reason;
 use crate::standard_input::STANDARD_INPUT;
-use coll_advice::{nearest_name, nearest_section};
+use coll_advice::meant_name;
 use coll_bench::{Fault, RunFault, read_inputs};
 use coll_findings::About;
 use coll_lex::{Counted, TextBuf, past_blanks};
@@ -20,7 +20,6 @@ use coll_lint::{
     write_refused,
 };
 use coll_sources::SourceFault;
-use coll_syntax::Id;
 use coll_table::{HashKeys, LoadCause, Table};
 use std::alloc::Global;
 use std::fs;
@@ -279,16 +278,8 @@ fn seek_near(alloc: Global, table: &Table, number: u8, about: &mut About) {
     let About::Id { id, near } = about else {
         return;
     };
-    let Id::Named(name) = id else {
-        return;
-    };
-    let found = if number == NO_SUCH_SECTION {
-        nearest_section(table, name.get())
-    } else {
-        nearest_name(table, name.get())
-    };
-    if let Some(found) = found {
-        *near = TextBuf::copied(alloc, found).ok();
+    if let Some(meant) = meant_name(table, number, id) {
+        *near = TextBuf::copied(alloc, meant).ok();
     }
 }
 
