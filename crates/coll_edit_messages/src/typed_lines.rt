@@ -140,10 +140,11 @@ impl TypedLines {
     // Whether a line was refused that was to open a block, and only order lines came since, the last line, which is this, included.
     fn is_unopened_behind(&self, line: &Line) -> bool {
         match (self.last, self.wish) {
+            (TypedLine::Fault(_), _) if ends_block(line) => false,
             (TypedLine::Fault(_), Wish::Foreign(word)) => {
                 word.opens_block() || (self.unopened && !word.ends_block())
             }
-            (TypedLine::Fault(_), _) => self.unopened && !ends_block(line),
+            (TypedLine::Fault(_), _) => self.unopened,
             (TypedLine::Order | TypedLine::Nothing, _) => self.unopened,
             _ => false,
         }
