@@ -121,6 +121,21 @@ SESSIONS = [
         "\nnote: 2 statements stand in no file, and are lost\n",
         {},
     ),
+    # A target that the block before places, which has no end.
+    (
+        ["edit", "base.txt"],
+        [
+            ("collating-symbol <X>", "ok 1\n> "),
+            ("reorder-after a", "block> "),
+            ("<X>", "block> "),
+            ("reorder-after <X>", f"ok 2\n{NO_END}\nblock> "),
+            ("c", "block> "),
+            ("reorder-end", "ok 3\n> "),
+        ],
+        END,
+        "\nnote: 3 statements stand in no file, and are lost\n",
+        {},
+    ),
     # What the reply to a block will say whatever its other lines are.
     (
         ["edit", "base.txt"],

@@ -480,7 +480,8 @@ impl Editor {
         if !was_open && self.typed.is_idle() {
             tell_note(messages, Note::Idle);
         }
-        if is_open {
+        // Where it ended another block, what that one did to the table wasn't known when this was looked at.
+        if is_open && !completes {
             self.tell_doubt(messages);
         }
     }
