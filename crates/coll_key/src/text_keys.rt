@@ -2,7 +2,7 @@
 //!
 //! What a text meets of a table is looked up for the text alone, so a changed table costs nothing but new numbers of its entries.
 //! For many texts or long ones `Ranks` serve better: they are the simple form (`keys`, `comparison`), and both have the clauses `key_of`
-//! and `order_of`.
+//! and `order_of`. `KeptRanks` of coll_bench chooses between the two, by how many characters were looked up since the last change.
 
 ghost use Rattle.std.specs.Prelude.{◌≡◌, ◌≢◌, ◌||◌, chars, map, true, false, IfOk, IfErr};
 ghost use Rattle.coll_nodes.specs.NodeNumbers.{AreNumbersOf};

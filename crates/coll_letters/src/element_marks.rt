@@ -3,7 +3,8 @@
 //! Of the strings of all elements that are declared the first two characters are marked. At a character that is marked as no first one,
 //! or that isn't followed by one that is marked as second, no element begins. One that is marked as a whole string begins one always. So
 //! most words that hold a character with which an element begins are still known to be their characters alone, since hardly any holds
-//! what follows it in the element.
+//! what follows it in the element. Where both the character and the next one are marked, an element may begin or not (`is_apart`), and
+//! the marks tell no more: who asked then finds the elements of the text (`longest`), or compares by whole keys.
 //!
 //! The simple form is `longest`, which looks the text up; `AreMarks` joins both.
 

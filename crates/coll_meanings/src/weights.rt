@@ -2,6 +2,9 @@
 //!
 //! Weights over a table that is tailored and those over none go by the same rules (`LookUp`); what is handed out for those over none
 //! holds nothing of a table. Where all that is placed is known by what was found of it, each identifier is looked up once.
+//!
+//! What a weight names that is placed nowhere is left out, which is told (`UnplacedInWeight`); a weight of which nothing is placed
+//! becomes IGNORE (`mended`).
 
 use crate::meanings::Meanings;
 use crate::source_ids::SourceIds;

@@ -3,7 +3,7 @@
 //! Most weights are one rank, and some are ignored. Such a weight is told by its cell alone; a list of several ranks stands
 //! apart, among the long ones. So the weights of an entry lie together, and a look-up mostly reads one cell.
 //!
-//! Both forms have one clause (`compiled_weight`).
+//! The plain form is `rank_lists`, which keeps each weight as a list, and here the long ones; both have one clause (`compiled_by`).
 
 ghost use Rattle.std.specs.Prelude.{◌≡◌, ◌<◌, ◌++◌, ◌∷◌, [], ℕ, suc, map, drop, IfOk, IfSome, OnOk, slice_index_or};
 ghost use Rattle.coll_elements.specs.Rank.{known_rank};

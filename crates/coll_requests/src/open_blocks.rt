@@ -1,8 +1,9 @@
-//! The block that a session has open.
+//! The block that a session, or a delta file, has open.
 //!
-//! A block opens at `reorder-after` and has its one answer where it ends. Until then it keeps its order lines, or,
-//! once a line has spoiled it, that line's fault alone. A growth that is refused makes the line that needed it a refused
-//! one. A new kind of line that a block doesn't take needs no change here: it is one of `StandaloneLine`.
+//! A block opens at `reorder-after` and has its one answer where it ends. Until then it keeps its order lines, or, once a line has
+//! spoiled it, that line's fault alone. Each line is taken by `take_line`, with the block that is open, if one is. A growth that is
+//! refused makes the line that needed it a refused one. A new kind of line that a block doesn't take needs no change here: it is one
+//! of `StandaloneLine`.
 
 ghost use Rattle.std.specs.Prelude.{◌≡◌, [], Bool, Some, None, IsSome, IfSome, OnOk, OnErr, option_to_list};
 ghost use Rattle.coll_syntax.specs.Proper.{IsId, IsProperLine, IsProper};

@@ -1,4 +1,8 @@
 //! A review, statement by statement: the table, the words in its order, and what was told so far.
+//!
+//! Whether the words are looked at behind a statement is decided by `declares_alone`. A symbol, an element or an equivalence gives a new
+//! name alone, so that all texts keep their order, and it is told that none moved. Behind any other statement the words are sorted anew
+//! (`sort_anew`).
 
 ghost use Rattle.std.specs.Prelude.{◌≡◌, ◌∷◌, ◌++◌, [], length, zero};
 ghost use Rattle.coll_devices.specs.Devices.{Writes};

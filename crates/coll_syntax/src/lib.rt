@@ -5,7 +5,7 @@
 //!
 //! - `identifiers`, `weights`, `rules`, `statements`, `lines`: what a line says, as data;
 //! - `keywords`, `operands`, `elements`, `weight_lists`, `rule_lists`, `order_lines`: the tokens of each part (`weight_lists` says which
-//!   weight is IGNORE, an entry itself, or a list of identifiers);
+//!   weight is IGNORE, an entry itself, or a list of identifiers; `elements` reads the text of a command too, with `characters`);
 //! - `table_lines` and `delta_lines`: whole lines (`parse_table_line`, `parse_delta_line`);
 //! - `plain_lines` and `plain_deltas`, with `plain_weights`: the same of a line whose tokens are lent where they stand;
 //! - `syntax_faults`: why a line says nothing.

@@ -1,10 +1,12 @@
 //! A table that grows.
 //!
 //! A `BodyBuilder` puts declarations, sections and entries behind those that are there, and answers what is there by look-ups. What
-//! contracts see of it are the two lists (`Parts` of `specs/Building.antt`); `into_body` gives the body that has them. Whether a name
-//! is free is all that it judges (`declare_free`): what else may be put where is for its caller to know. Beside the body, which knows
-//! where its declarations end, it keeps the places where the sections and the last of them end (`IsSoundBuilder` of
-//! `specs/SoundBodies.antt` of coll_nodes), so that no call walks.
+//! contracts see of it are the two lists (`Parts` of `specs/Building.antt`); `into_body` gives the body that has them.
+//!
+//! It judges two things alone: whether a name, and the string of an element, is free (`declare_free`), and whether an identifier stands
+//! in a section already (`place_last`). What else may be put where is for its caller to know. Beside the body, which knows where its
+//! declarations end, it keeps the places where the sections and the last of them end (`IsSoundBuilder` of `specs/SoundBodies.antt` of
+//! coll_nodes), so that no call walks.
 
 ghost use Rattle.std.specs.Prelude.{◌≡◌, ◌∷◌, ◌++◌, ◌&&◌, [], true, false, not, IfOk, OnOk, OnErr, length, option_copied};
 ghost use Rattle.coll_syntax.specs.Identifier.{has_name};

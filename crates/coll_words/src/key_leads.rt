@@ -4,6 +4,10 @@
 //! so that the first digits of a key, a dozen of thirty, fit one number: its lead. Where the leads of two keys differ, the keys have the
 //! same order, and only of words with one lead the keys are looked at, which is the simple form; `LeadsTo`, over digits that rise as the
 //! numbers do, joins both.
+//!
+//! A key has no lead where one of the numbers that it begins with has no digit (`lead`). No number has one where the keys are few
+//! beside the greatest number (`PLACES_A_NUMBER`), and one too great never has (`MOST_PLACES`). Where one key of a list has no lead, all
+//! have the lead 0 (`stored_words`), as they have where the words are in order as they stand.
 
 ghost use Rattle.std.specs.Prelude.{◌≡◌, ◌<◌, ◌≤◌, ◌*◌, suc, ℕ, length, true, false, IfSome};
 ghost use Rattle.coll_ranks.specs.WeightNumbers.{rank_step};

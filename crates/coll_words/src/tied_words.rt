@@ -2,6 +2,8 @@
 //!
 //! Of words that are sorted by the first level alone few stand beside one that it doesn't tell apart. Of these the whole keys are made,
 //! those of one run after another, and given up behind it. Words with one and the same text need none.
+//!
+//! The simple form is to sort all words by whole keys, as `sorted_run` sorts those of one run; both have the clause `AreSorted`.
 
 ghost use Rattle.std.specs.Prelude.{◌≡◌, ◌≢◌, ◌<◌, ◌≤◌, ◌-◌, ◌⊎◌, chars, length, true, slice_index_or, IfOk, IfErr, OnOk};
 ghost use Rattle.std.specs.List.Sorted.{IsSortedBy};

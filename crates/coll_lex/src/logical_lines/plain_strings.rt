@@ -1,7 +1,8 @@
 //! Strings whose pieces are read where they stand.
 //!
 //! The strings of weights are mostly symbols: `"<S0063><S0068>"`. Each piece is lent from the line, as a token is (`plain_tokens`), so
-//! that no list of pieces is made. What is no symbol, or has an escape in it, is left to `feed`.
+//! that no list of pieces is made. What is no symbol, or has an escape in it, is left to `feed`. What a symbol stands for
+//! (`symbol_piece`) is told for tokens too (`plain_token` of `plain_tokens`).
 
 ghost use Rattle.std.specs.Prelude.{◌≡◌, ◌<◌, ◌==◌, ◌∷◌, length, false, true, chars, Ok, IfSome};
 ghost use Rattle.std.specs.List.{list_all};
