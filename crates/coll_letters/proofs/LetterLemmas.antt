@@ -2,10 +2,11 @@
 use Rattle.std.proofs.Common.{◌≡◌, inl, inr, ⊎_elim, ℕ, zero, suc, ◌+◌, ◌<◌, ◌≤◌, Bool, true, false, List, [], ◌∷◌, ◌++◌, length, map, Option, None, Some, All, chars, refl, sym, ap, subst, ◌∙◌, append_assoc, arith, drop, get_or}
 use Rattle.std.specs.Prelude.{IfSome, slice_index_or}
 use Rattle.std.specs.List.{flat_map}
-use Rattle.std.specs.Ordering.{is_ne, nat_cmp, ordering_then}
+use Rattle.std.specs.Ordering.{is_lt, is_ne, nat_cmp, ordering_then}
 use Rattle.std.specs.declared.cmp.Ordering.{Ordering}
 use Rattle.std.specs.declared.cmp.Ordering.TheVariants.{Less, Equal, Greater}
 use Rattle.std.specs.Cmp.{nat_cmp_is}
+use Rattle.std.proofs.lemmas.Bool.{false≢true, true≢false}
 use Rattle.std.proofs.lemmas.List.{map-append}
 use Rattle.std.proofs.lemmas.List.Elements.{All-append, All-cons, All-nil}
 use Rattle.std.specs.Str.{IsUtf8}
@@ -33,7 +34,7 @@ use Rattle.coll_key.specs.TextOrder.{level_lists, list_order, order_of}
 use Rattle.coll_letters.specs.ElementMarks.{AreAlone, AreMarks, GoesOnOther, GoesOnOtherAt, IsAloneAt, IsApart, IsApartAt, IsSameAt, StandsAlone}
 use Rattle.coll_letters.proofs.LevelNumberLemmas.{gaps_tell_nothing}
 use Rattle.coll_letters.proofs.MarkLemmas.{stands_apart}
-use Rattle.coll_letters.specs.LetterWeights.{DecidesBoth, GoesOn, IsFirstLetter, IsLetterRow, IsLevelOrder, IsRowOf, IsStep, IsStepAtEnd, IsStepOfBoth, OrdersAlike, OrdersAlikeAt, OrdersSo, PassesOne, list_behind, order_at_end, order_behind, text_items, text_numbers}
+use Rattle.coll_letters.specs.LetterWeights.{DecidesBoth, GoesOn, IsFirstLetter, IsLetterRow, IsLevelOrder, IsRowOf, IsStep, IsStepAtEnd, IsStepOfBoth, OrdersAlike, OrdersAlikeAt, OrdersSo, PassesAtEnd, PassesOne, list_behind, order_at_end, order_behind, text_items, text_numbers}
 use Rattle.coll_letters.specs.declared.element_marks.ElementMarks.{ElementMarks}
 use Rattle.coll_letters.specs.declared.letter_weights.FirstLetter.{FirstLetter}
 use Rattle.coll_letters.specs.declared.letter_weights.LetterRow.{LetterRow}
@@ -333,24 +334,30 @@ module _ (table : Collation) (level : ℕ) where
   less_at_end [] = refl
   less_at_end (x ∷ xs) = refl
 
-  pub step_greater : (plain : Bool) (text other : List ℕ) (step : LetterStep) → other ≡ [] → IsStepAtEnd table level text Greater step → IsStep table level plain text other step
+  pub step_greater : (plain : Bool) (text other : List ℕ) (step : LetterStep) → other ≡ [] → IsStepAtEnd table level plain text Greater step → IsStep table level plain text other step
   step_greater plain text other (Decided order) ended ends = λ position gaps.
       ends position gaps ∙ greater_at_end (list_behind table level position gaps text)
       ∙ sym (ap (λ (l : List ℕ). list_order (list_behind table level position gaps text) (list_behind table level position gaps l)) ended
       ∙ ap (list_order (list_behind table level position gaps text)) (none_behind table level position gaps))
   step_greater plain text other (Later later others) ended ends = absurd ends
-  step_greater plain text other (PassedFirst later) ended ends = absurd ends
-  step_greater plain text other (PassedSecond others) ended ends = absurd ends
+  step_greater plain text other (PassedFirst later) ended ends = record {
+    same = λ gaps. (gaps, ap (λ (l : List ℕ). list_order l (list_behind table level plain gaps other)) (ends.same gaps));
+    shorter = omega (arith, ends.shorter);
+  }
+  step_greater plain text other (PassedSecond others) ended ends = absurd (false≢true ends.side)
   step_greater plain text other Unknown ended ends = tt
 
-  pub step_less : (plain : Bool) (text other : List ℕ) (step : LetterStep) → text ≡ [] → IsStepAtEnd table level other Less step → IsStep table level plain text other step
+  pub step_less : (plain : Bool) (text other : List ℕ) (step : LetterStep) → text ≡ [] → IsStepAtEnd table level plain other Less step → IsStep table level plain text other step
   step_less plain text other (Decided order) ended ends = λ position gaps.
       ends position gaps ∙ less_at_end (list_behind table level position gaps other)
       ∙ sym (ap (λ (l : List ℕ). list_order (list_behind table level position gaps l) (list_behind table level position gaps other)) ended
       ∙ ap (λ (l : List ℕ). list_order l (list_behind table level position gaps other)) (none_behind table level position gaps))
   step_less plain text other (Later later others) ended ends = absurd ends
-  step_less plain text other (PassedFirst later) ended ends = absurd ends
-  step_less plain text other (PassedSecond others) ended ends = absurd ends
+  step_less plain text other (PassedFirst later) ended ends = absurd (true≢false ends.side)
+  step_less plain text other (PassedSecond others) ended ends = record {
+    same = λ gaps. (gaps, ap (list_order (list_behind table level plain gaps text)) (ends.same gaps));
+    shorter = omega (arith, ends.shorter);
+  }
   step_less plain text other Unknown ended ends = tt
 
   -- no text has no numbers
@@ -377,6 +384,15 @@ module _ (table : Collation) (level : ℕ) where
         ∙ subst (λ (p : Bool). listed p (suc gaps) (text_items table level (chars first.rest.now)) ≡ listed p gaps (text_items table level (chars first.rest.now))) (sym one.plain)
         (gaps_unseen (suc gaps) gaps (text_items table level (chars first.rest.now)))
         ∙ ap (λ (l : List ℕ). list_behind table level position gaps (chars l)) (sym one.rest_is)
+
+    -- so where the other text has ended
+    pub passed_at_end : (position : Bool) (text : List ℕ) (first : FirstLetter) (ns : List ℕ) (wanted : Ordering) (is_less : Bool) → IsFirstLetter table weights text first
+        → ns ≡ row_numbers weights level first.row → ns ≡ [] → position ≡ false → is_lt wanted ≡ is_less → PassesAtEnd table level position text (chars first.rest.now) wanted is_less
+    passed_at_end position text first ns wanted is_less is n none plain side = record {
+      same = ignored_behind position text first ns first.rest.now is n (record { none = none; plain = plain; rest_is = refl });
+      shorter = is.shorter;
+      side = side;
+    }
 
     pub step_both : (plain : Bool) (text other : List ℕ) (first second : FirstLetter) (ns ms : List ℕ) (step : LetterStep) → IsFirstLetter table weights text first → IsFirstLetter table weights other second
         → ns ≡ row_numbers weights level first.row → ms ≡ row_numbers weights level second.row → IsStepOfBoth plain ns ms first second step → IsStep table level plain text other step

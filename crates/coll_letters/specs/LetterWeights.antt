@@ -1,6 +1,7 @@
 -- What characters weigh in a table, kept for the characters of words alone.
-use Rattle.std.specs.Prelude.{◌≡◌, ◌<◌, ◌≤◌, ◌+◌, ℕ, Bool, false, List, [], ◌∷◌, ◌++◌, Option, All, length, map, chars}
+use Rattle.std.specs.Prelude.{◌≡◌, ◌<◌, ◌≤◌, ◌+◌, ℕ, Bool, false, true, List, [], ◌∷◌, ◌++◌, Option, All, length, map, chars}
 use Rattle.std.specs.List.{flat_map}
+use Rattle.std.specs.Ordering.{is_lt}
 use Rattle.std.specs.declared.cmp.Ordering.{Ordering}
 use Rattle.std.specs.declared.cmp.Ordering.TheVariants.{Equal}
 use Rattle.coll_syntax.specs.declared.identifiers.Id.TheVariants.{Char}
@@ -125,11 +126,17 @@ abbrev pub order_at_end : (wanted : Ordering) → List ℕ → Ordering
 order_at_end wanted [] = Equal
 order_at_end wanted (number ∷ numbers) = wanted
 
+-- or its first character is passed, which has no number there: it is the second text's where the first one would be less
+pub record PassesAtEnd (table : Collation) (level : ℕ) (position : Bool) (text later : List ℕ) (wanted : Ordering) (is_less : Bool) : Type 0 where
+  pub same : (gaps : ℕ) → list_behind table level position gaps text ≡ list_behind table level position gaps later
+  pub shorter : length later < length text
+  pub side : is_lt wanted ≡ is_less
+
 -- where another text has ended, the order is this if this one has numbers at a level
-abbrev pub IsStepAtEnd : Collation → (level : ℕ) → (text : List ℕ) → Ordering → LetterStep → Type 0
-IsStepAtEnd table level text wanted (Decided order) =
-    (position : Bool) (gaps : ℕ) → order ≡ order_at_end wanted (list_behind table level position gaps text)
-IsStepAtEnd table level text wanted (Later later rest) = ⊥
-IsStepAtEnd table level text wanted (PassedFirst later) = ⊥
-IsStepAtEnd table level text wanted (PassedSecond rest) = ⊥
-IsStepAtEnd table level text wanted Unknown = Unit {0}
+abbrev pub IsStepAtEnd : Collation → (level : ℕ) → (position : Bool) → (text : List ℕ) → Ordering → LetterStep → Type 0
+IsStepAtEnd table level position text wanted (Decided order) =
+    (plain : Bool) (gaps : ℕ) → order ≡ order_at_end wanted (list_behind table level plain gaps text)
+IsStepAtEnd table level position text wanted (Later later rest) = ⊥
+IsStepAtEnd table level position text wanted (PassedFirst later) = PassesAtEnd table level position text (chars later.now) wanted false
+IsStepAtEnd table level position text wanted (PassedSecond rest) = PassesAtEnd table level position text (chars rest.now) wanted true
+IsStepAtEnd table level position text wanted Unknown = Unit {0}

@@ -235,14 +235,14 @@ impl FirstNumbers {
 
     // A step along two texts.
     #[inline(always)]
-    fn step<'a, 'b>(
+    fn step<'a>(
         &self,
         table: &Table,
         places: &CodePoints,
         marks: &ElementMarks,
         left: &'a str,
-        right: &'b str,
-    ) -> LetterStep<'a, 'b>
+        right: &'a str,
+    ) -> LetterStep<'a>
         requires numbers { AreFirstNumbers (collation table.now) self.now }
         requires marks { AreMarks (collation table.now) marks.now }
         requires level { 0 < length (collation table.now).rules }
@@ -284,18 +284,18 @@ impl FirstNumbers {
     // The same where one text has ended: where this one has too, none comes before the other, and where it goes on with a number, the
     // order is this.
     #[inline(always)]
-    fn step_at_end<'a, 'b>(
+    fn step_at_end<'a>(
         &self,
         table: &Table,
         places: &CodePoints,
         marks: &ElementMarks,
         text: &str,
         order: Ordering,
-    ) -> LetterStep<'a, 'b>
+    ) -> LetterStep<'a>
         requires numbers { AreFirstNumbers (collation table.now) self.now }
         requires marks { AreMarks (collation table.now) marks.now }
         requires level { 0 < length (collation table.now).rules }
-        ensures { IsStepAtEnd (collation table.now) 0 (chars text.now) order result }
+        ensures { IsStepAtEnd (collation table.now) 0 true (chars text.now) order result }
     {
         if text.is_empty() {
             return LetterStep::Decided(Ordering::Equal);

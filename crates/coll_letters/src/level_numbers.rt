@@ -1,7 +1,7 @@
 //! The numbers of a text at a level that is looked at from the front, one after another, by the rows of its characters.
 //!
-//! Where single numbers don't tell the order of two texts, since an ignored weight stands against another one and positions tell, or
-//! against the end of a text, or a character has several numbers, the level is gone through so along both. Nothing is kept of them, and
+//! Where single numbers don't tell the order of two texts, since an ignored weight stands against another one, or against the end of a
+//! text, and positions tell, or a character has several numbers, the level is gone through so along both. Nothing is kept of them, and
 //! it takes no memory: what is left of a text is a list of items (`specs/LevelNumbers.antt`). The simple form compares keys; the clause
 //! `order_behind` of `order_by_numbers` joins both.
 
