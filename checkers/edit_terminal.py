@@ -149,12 +149,12 @@ SESSIONS = [
             ("reorder-after f", "note: 50 TargetNotPlaced <U0066>: place the target first, or name one that is placed\nblock> "),
             ("reorder-after a", "refused 50 TargetNotPlaced\n50 TargetNotPlaced <U0066>: place the target first, or name one that is placed\n"
              f"{NO_END}\n{REFUSED}\nblock> "),
-            ("<X>", "note: 34 NotDeclared <X>: declare it with collating-symbol\nblock> "),
+            ("<X>", "note: 34 NotDeclared <X>: declare it with collating-symbol; a character stands without brackets\nblock> "),
             ("c", "block> "),
-            ("<X>", "note: 34 NotDeclared <X>: declare it with collating-symbol\nblock> "),
-            ("reorder-end", "refused 34 NotDeclared\nline 1 of the block: 34 NotDeclared <X>: declare it with collating-symbol\n"
+            ("<X>", "note: 34 NotDeclared <X>: declare it with collating-symbol; a character stands without brackets\nblock> "),
+            ("reorder-end", "refused 34 NotDeclared\nline 1 of the block: 34 NotDeclared <X>: declare it with collating-symbol; a character stands without brackets\n"
              f"{REFUSED}\n> "),
-            ("<X>", "refused 34 NotDeclared\n34 NotDeclared <X>: declare it with collating-symbol\n> "),
+            ("<X>", "refused 34 NotDeclared\n34 NotDeclared <X>: declare it with collating-symbol; a character stands without brackets\n> "),
         ],
         END,
         "\n",

@@ -24,11 +24,11 @@ SECONDS = 60
 # What to do, by the number of a fault.
 NOT_UTF8 = "save the text as UTF-8, or take the bytes out, also in a comment"
 OPEN_SYMBOL = "close the symbol with >; escape a < that is meant as a character"
-UNKNOWN = "look for a mistyped keyword, a line of deltas in a table (copy, reorder-after), or a command in a delta file"
+UNKNOWN = "look for a mistyped keyword, a symbol without < and >, a line of deltas in a table (copy, reorder-after), or a command in a delta file"
 ALONE = "write order_end alone"
 AFTER = "write reorder-after and one identifier, a character or a name between < and >"
 NO_CATEGORY = "write the line LC_COLLATE in UTF-8, with nothing but blanks or a comment behind it"
-NO_DELTA = "a delta file has a line LC_COLLATE; a list of words is none, and collbench sort reads it from standard input"
+NO_DELTA = "a delta file has a line LC_COLLATE before its statements, and END LC_COLLATE behind them; a list of words is none, and collbench sort reads it from standard input"
 NOT_DECLARED = "declare it with collating-symbol"
 NO_END_OF_SYMBOL = "close the symbol before the next < with >, or declare it with collating-symbol"
 CODE_POINT = "spell a character as U and four to eight digits, or declare the name with collating-symbol"
@@ -85,7 +85,7 @@ RUNS = [
              '  4 | b "ax"', "    |     ^", WEIGHT_NOT_PLACED),
     of_table("escapes of the character in force", "escape_char /\n" + table("<B/>/E>"), "4: 34 NotDeclared", "  4 | <B/>/E>", "    | ^^^^^^^", NOT_DECLARED),
     of_table("no escapes of another character", table("a </B/>"), "3: 34 NotDeclared", "  3 | a </B/>", "    |   ^^^^^", NOT_DECLARED),
-    of_table("an identifier in a comment isn't meant", "comment_char %\n" + table("%<X>", "<X>%<X>"), "5: 34 NotDeclared", "  5 | <X>%<X>", "    | ^^^", NOT_DECLARED),
+    of_table("an identifier in a comment isn't meant", "comment_char %\n" + table("%<X>", "<X>%<X>"), "5: 34 NotDeclared", "  5 | <X>%<X>", "    | ^^^", f"{NOT_DECLARED}; a character stands without brackets"),
     of_table("a keyword that is none", "LC_COLLATE\n collating-letter <X>\nEND LC_COLLATE\n", "2: 20 UnknownStatement",
              "  2 |  collating-letter <X>", "    |  ^^^^^^^^^^^^^^^^", UNKNOWN),
     of_table("a mistyped keyword", "LC_COLLATE\n collating-symbl <X>\nEND LC_COLLATE\n", "2: 20 UnknownStatement",
@@ -152,7 +152,7 @@ RUNS = [
              "  2 | reorder-after <BASF>", "    |               ^^^^^^", "place the target first, or name one that is placed; is <BASE> meant?"),
     of_delta("a section that is near", delta("reorder-section-after <PUNKT> <DIGITS>"), "2: 52 NoSuchSection",
              "  2 | reorder-section-after <PUNKT> <DIGITS>", "    |                       ^^^^^^^",
-             "look for the names with :list; the first section has none; is <PUNCT> meant?"),
+             "look for the name with :show of an entry of the section; the first section has none; is <PUNCT> meant?"),
     of_delta("a list of words where a delta file is wanted", "zebra\napple\n", "2: 30 NoCategory", "  2 | apple", "    | ^^^^^", NO_DELTA),
     of_delta("a keyword of another dialect in a delta file", delta("", "reset <U0061>"), "3: 20 UnknownStatement",
              "  3 | reset <U0061>", "    | ^^^^^", "reorder-after is meant?"),
@@ -178,7 +178,7 @@ RUNS = [
     of_delta("an end of no block", delta("reorder-end"), "2: 69 NoBlock", "  2 | reorder-end", "    | ^^^^^^^^^^^", "write reorder-after, or drop the line"),
     of_delta("a section that isn't there", delta("reorder-section-after <PUNCT> <DIGITS>"), "2: 52 NoSuchSection",
              "  2 | reorder-section-after <PUNCT> <DIGITS>", "    |                               ^^^^^^^^",
-             "look for the names with :list; the first section has none"),
+             "look for the name with :show of an entry of the section; the first section has none"),
     of_delta("a delta file without an end", "LC_COLLATE\nreorder-after <U0061>\nreorder-end\n", "3: 43 NoEnd",
              "  3 | reorder-end", "    | ^^^^^^^^^^^", NO_END),
     {

@@ -100,7 +100,7 @@ fn grammar_advice(number: u8) -> Option<Advice>
     match number {
         20 => row(
             "UnknownStatement",
-            "look for a mistyped keyword, a line of deltas in a table (copy, reorder-after), or a command in a delta file",
+            "look for a mistyped keyword, a symbol without < and >, a line of deltas in a table (copy, reorder-after), or a command in a delta file",
         ),
         21 => row("MissingOperand", "write what is missing"),
         22 => row(
@@ -201,7 +201,7 @@ fn statement_advice(number: u8) -> Option<Advice>
         ),
         52 => row(
             "NoSuchSection",
-            "look for the names with :list; the first section has none",
+            "look for the name with :show of an entry of the section; the first section has none",
         ),
         53 => row("SectionAfterItself", "name another section"),
         54 => row("NotPlaced", "place it by a block"),

@@ -1,8 +1,8 @@
 //! What to do about a name that isn't declared, where its spelling shows what was meant.
 //!
 //! A symbol whose `>` was forgotten goes on to that of the next one, and so its name has a `<`; and a code point of too few or too many
-//! digits, or behind `U+` as Unicode writes it, is the name of a symbol. Either may be a declared name, so the sentence of the number
-//! stays true; what is told only comes before it. A further spelling is a case of `by_spelling`.
+//! digits, or behind `U+` as Unicode writes it, is the name of a symbol, and so is a character in brackets. Each may be a declared name,
+//! so the sentence of the number stays true; what is told only stands beside it. A further spelling is a case of `by_spelling`.
 
 ghost use Rattle.std.specs.Prelude.{◌≡◌, is_some};
 ghost use Rattle.coll_advice.specs.FaultNumbers.{is_fault_number};
@@ -19,6 +19,9 @@ const TARGET_NOT_PLACED: u8 = 50;
 // What to do about a symbol that goes on to the end of another one.
 const NO_END: &str =
     "close the symbol before the next < with >, or declare it with collating-symbol";
+
+// What to do about a name of one character.
+const CHARACTER: &str = "declare it with collating-symbol; a character stands without brackets";
 
 // What to do about a code point that is spelled otherwise than here.
 const CODE_POINT: &str =
@@ -55,6 +58,9 @@ fn by_spelling(name: &str, sentence: &'static str) -> &'static str {
     }
     if is_code_point(name) {
         return CODE_POINT;
+    }
+    if name.chars().nth(1).is_none() {
+        return CHARACTER;
     }
     sentence
 }

@@ -23,11 +23,11 @@ const COMMANDS: &[(&str, &str)] = &[
     ),
     (
         ":write",
-        "write :write FILE, a name with blanks or one of ; , < # in quotes",
+        "write :write FILE, a name with blanks or one of ; , # in quotes, and \\< for <",
     ),
     (
         ":words",
-        "write :words FILE, a name with blanks or one of ; , < # in quotes",
+        "write :words FILE, a name with blanks or one of ; , # in quotes, and \\< for <",
     ),
     (
         ":withdraw",
@@ -39,16 +39,16 @@ const COMMANDS: &[(&str, &str)] = &[
     ),
     (
         ":key",
-        "write :key TEXT, a text with blanks or one of ; , < # in quotes",
+        "write :key TEXT, a text with blanks or one of ; , # in quotes, and \\< for <",
     ),
     (
         ":compare",
-        "write :compare TEXT TEXT, a text with blanks or one of ; , < # in quotes",
+        "write :compare TEXT TEXT, a text with blanks or one of ; , # in quotes, and \\< for <",
     ),
     (":check", "write :check alone"),
     (
         ":explain",
-        "write :explain TEXT TEXT, a text with blanks or one of ; , < # in quotes",
+        "write :explain TEXT TEXT, a text with blanks or one of ; , # in quotes, and \\< for <",
     ),
     (":list", "write :list alone"),
     (":print", "write :print alone"),

@@ -254,7 +254,8 @@ const NO_COMMENT: &[u8] = b": % begins no comment here; behind a line comment_ch
 const NO_FAULT: &[u8] = b": no refusal has this number\n";
 
 // What is told of a line that begins with nothing known here.
-const UNKNOWN: &[u8] = b": look for a mistyped keyword; :help tells of each line\n";
+const UNKNOWN: &[u8] =
+    b": look for a mistyped keyword, or a symbol without < and >; :help tells of each line\n";
 
 // What is told of something else than a number.
 const NO_NUMBER: &[u8] =

@@ -1,8 +1,9 @@
 //! How a line is spelled that the grammar refuses, where its words show what it is.
 //!
 //! What to do by the number of such a fault is said of all lines. Of a line with a keyword it is said here how that line is written; of
-//! `%` and `#`, that they begin no comment; of letters that begin a line as a keyword does, how they are declared; and of a name that
-//! begins a line, or stands among weights, that it has brackets. A further keyword is a row here.
+//! `%` and `#`, that they begin no comment; of letters that begin a line as a keyword does, how they are declared; of a name that
+//! begins a line, or stands among weights, that it has brackets; and of symbols of which one follows another, that they have quotes.
+//! A further keyword is a row here.
 
 use crate::foreign_words::foreign_word;
 use coll_advice::is_near;
@@ -23,6 +24,10 @@ const NAMED: &str = "write a name between < and >, and part weights by ;";
 
 // What to write in place of a comma among weights.
 const SEMICOLON: &str = "part weights by ;, not by a comma";
+
+// What to write in place of symbols among weights of which one follows another.
+const QUOTED: &str =
+    "part weights by ;, and put several symbols of one weight in quotes, as \"<BASE><TREMA>\"";
 
 // What to write in place of a name that begins a line.
 const BRACKETED: &str = "write a name between < and >";
@@ -55,7 +60,7 @@ const LEAST_DIGITS: usize = 4;
 const SPELLED: &[(&str, &str)] = &[
     (
         "collating-symbol",
-        "write collating-symbol <X>, with the name between < and >",
+        "write collating-symbol <X>, with the name between < and >; a character, as <U0061>, isn't declared",
     ),
     (
         "collating-element",
@@ -74,7 +79,10 @@ const SPELLED: &[(&str, &str)] = &[
         "reorder-after",
         "write reorder-after and one identifier, a character or a name between < and >",
     ),
-    ("reorder-end", "write reorder-end alone"),
+    (
+        "reorder-end",
+        "write reorder-end alone, with nothing behind it",
+    ),
     (
         "reorder-section-after",
         "write reorder-section-after <S> <T>, with both names between < and >",
@@ -95,7 +103,9 @@ pub fn advice_on_operands(line: &Line, number: u8) -> Option<&'static str> {
     match number {
         UNKNOWN_STATEMENT => advice_on_first(first, tokens),
         MISSING_OPERAND => written_with(first),
-        EXTRA_OPERAND => written_with(first).or(advice_on_sign(first)),
+        EXTRA_OPERAND => written_with(first)
+            .or(advice_on_sign(first))
+            .or(advice_on_joined(operands)),
         BAD_OPERAND => written_with(first)
             .or(advice_on_sign(first))
             .or(advice_on_weights(first, operands)),
@@ -168,6 +178,19 @@ fn advice_on_weights(first: &Token, operands: &[Token]) -> Option<&'static str> 
             }
             _ => {}
         }
+    }
+    None
+}
+
+// What is said of a symbol directly behind another one among weights.
+fn advice_on_joined(operands: &[Token]) -> Option<&'static str> {
+    let mut behind_symbol = false;
+    for token in operands {
+        let is_symbol = matches!(token, Token::Symbol(_) | Token::Char(_));
+        if is_symbol && behind_symbol {
+            return Some(QUOTED);
+        }
+        behind_symbol = is_symbol;
     }
     None
 }

@@ -70,7 +70,7 @@ const NO_CATEGORY: u8 = 30;
 
 // What to do about a delta file that has none, as a list of words.
 const NO_DELTA: &str =
-    "a delta file has a line LC_COLLATE; a list of words is none, and collbench sort reads it from standard input";
+    "a delta file has a line LC_COLLATE before its statements, and END LC_COLLATE behind them; a list of words is none, and collbench sort reads it from standard input";
 
 // The numbers of the faults of a block that is still open.
 const BLOCK_OPEN: u8 = 62;
