@@ -31,6 +31,10 @@ const CODE_POINT: &str =
 const TARGET: &str =
     "spell a character as U and four to eight digits, or name a target that is placed";
 
+// The same of a target.
+const TARGET_CHARACTER: &str =
+    "place the target first, or name one that is placed; a character stands without brackets";
+
 /// What to do about a fault with a number, which is about this identifier, if it is about one; nothing where no fault has the number.
 /// That is the sentence of the number but for a name that isn't declared, or has no entry, of which the spelling may show what was meant.
 pub fn sentence_for(number: u8, id: Option<&Id>) -> Option<&'static str>
@@ -47,6 +51,9 @@ fn by_identifier(number: u8, id: Option<&Id>, sentence: &'static str) -> &'stati
     match id {
         Some(Id::Named(name)) if number == NOT_DECLARED => by_spelling(name.get(), sentence),
         Some(Id::Named(name)) if number == TARGET_NOT_PLACED && is_code_point(name.get()) => TARGET,
+        Some(Id::Named(name)) if number == TARGET_NOT_PLACED && is_character(name.get()) => {
+            TARGET_CHARACTER
+        }
         _ => sentence,
     }
 }
@@ -59,10 +66,15 @@ fn by_spelling(name: &str, sentence: &'static str) -> &'static str {
     if is_code_point(name) {
         return CODE_POINT;
     }
-    if name.chars().nth(1).is_none() {
+    if is_character(name) {
         return CHARACTER;
     }
     sentence
+}
+
+// Whether a name has no second character.
+fn is_character(name: &str) -> bool {
+    name.chars().nth(1).is_none()
 }
 
 /// Whether a name is that of a code point elsewhere: `U` or `U+` and hexadecimal digits alone. With four to eight digits behind `U` it is

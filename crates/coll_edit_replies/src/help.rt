@@ -34,7 +34,7 @@ the table:
   :explain TEXT TEXT   why
   :words FILE          the words of a file in order; * where the last statement changed a neighbour
   :check  :list  :print
-a TEXT or a FILE with blanks or one of ; , # stands in quotes, and in it \\< for <
+a TEXT or a FILE with blanks or one of ; , # stands in quotes; a < is written \\<
   :help NUMBER         what a refusal says, and what to do
   :quit                the end; at Ctrl-C what stands in no file is lost
 ";
