@@ -105,7 +105,7 @@ fn grammar_advice(number: u8) -> Option<Advice>
         21 => row("MissingOperand", "write what is missing"),
         22 => row(
             "ExtraOperand",
-            "take the rest of the line away; between operands of weights stand semicolons, and no range (..)",
+            "take the rest of the line away; weights are parted by semicolons, without ranges (..), and several symbols of one weight stand in quotes",
         ),
         23 => row(
             "BadRule",
