@@ -4,34 +4,30 @@ use Rattle.coll_syntax.specs.declared.rules.Rule.{Rule}
 use Rattle.coll_nodes.specs.TableLayout.{collation}
 use Rattle.coll_letters.proofs.LetterLemmas.{alike_at, level_orders_behind, level_orders_left}
 use Rattle.coll_letters.proofs.letter_weights.LetterWeights.forward_order.Goals as goal
-
-pub letters-preserved-in-Later : goal.letters-preserved-in-Later
-letters-preserved-in-Later c =
-    let table = collation c.args.table.now in
-    let position = c.args.position in record {
-      left = search rules;
-      right = search rules;
-      same = alike_at table c.args.level position (chars c.args.text.now) (chars c.args.other.now) (chars c.letters.left.now) (chars c.letters.right.now) (chars c.behind_same.result.0.now)
-          (chars c.behind_same.result.1.now) c.letters.invariant.same
-          (alike_at table c.args.level position (chars c.letters.left.now) (chars c.letters.right.now) (chars c.in-Later.later.now) (chars c.in-Later.others.now)
-          (chars c.behind_same.result.0.now) (chars c.behind_same.result.1.now) (c.in-Later.ensures.same position) (c.behind_same.ensures.same position));
-    }
-
-pub letters-preserved-in-PassedFirst : goal.letters-preserved-in-PassedFirst
-letters-preserved-in-PassedFirst c = record {
-  left = search rules;
-  right = search rules;
-  same = alike_at (collation c.args.table.now) c.args.level c.args.position (chars c.args.text.now) (chars c.args.other.now) (chars c.letters.left.now) (chars c.letters.right.now)
-      (chars c.in-PassedFirst.later.now) (chars c.letters.right.now) c.letters.invariant.same c.in-PassedFirst.ensures.same;
-}
+use Rattle.coll_letters.proofs.letter_weights.LetterWeights.forward_order.Goals.{in-Later, in-PassedFirst, in-PassedSecond}
 
 pub letters-preserved : goal.letters-preserved
-letters-preserved c = record {
-  left = search rules;
-  right = search rules;
-  same = alike_at (collation c.args.table.now) c.args.level c.args.position (chars c.args.text.now) (chars c.args.other.now) (chars c.letters.left.now) (chars c.letters.right.now)
-      (chars c.letters.left.now) (chars c.in-PassedSecond.others.now) c.letters.invariant.same c.in-PassedSecond.ensures.same;
-}
+letters-preserved c =
+    let table = collation c.args.table.now in
+    let level = c.args.level in
+    let position = c.args.position in
+    let left = chars c.letters.left.now in
+    let right = chars c.letters.right.now in
+    let last = chars c.behind_same.result.0.now in
+    let last_other = chars c.behind_same.result.1.now in
+    record {
+      left = search rules;
+      right = search rules;
+      same = alike_at table level position (chars c.args.text.now) (chars c.args.other.now) left right last last_other c.letters.invariant.same
+          (elim c.match-step.branch [
+            | in-Later w ↦ alike_at table level position left right (chars w.in-Later.later.now) (chars w.in-Later.others.now) last last_other (w.in-Later.ensures.same position)
+                ((rw w.t-28-is at c.behind_same.ensures.same) position)
+            | in-PassedFirst w ↦ alike_at table level position left right (chars w.in-PassedFirst.later.now) right last last_other w.in-PassedFirst.ensures.same
+                ((rw w.t-28-is at c.behind_same.ensures.same) position)
+            | in-PassedSecond w ↦ alike_at table level position left right left (chars w.in-PassedSecond.others.now) last last_other w.in-PassedSecond.ensures.same
+                ((rw w.t-28-is at c.behind_same.ensures.same) position)
+          ]);
+    }
 
 pub returns-in-Decided : goal.returns-in-Decided
 returns-in-Decided c =
