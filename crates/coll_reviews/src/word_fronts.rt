@@ -5,7 +5,7 @@
 //! without a look at any text. It is a guess: nobody rests on it, since who has words sorted by it compares neighbours behind that
 //! (`listed_words`). So no contract speaks of the numbers, but of the words, none of which is lost.
 //!
-//! The simple form is `listed_keys`; both end in `IsSortedAnew`.
+//! The simple form is `listed_keys`. `sort_anew` of `listed_words`, which takes either, has the clause `IsSortedAnew`.
 
 ghost use Rattle.std.specs.List.Sorted.{IsPermutation};
 

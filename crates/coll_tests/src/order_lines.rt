@@ -6,7 +6,7 @@
 use crate::assertions::assert_text;
 use crate::long_texts::repeated;
 use crate::meanings::told::{tell, tell_losses};
-use crate::pieces::Form;
+use crate::pieces::{Form, PLAIN};
 use crate::random::Random;
 use coll_lex::Counted;
 use coll_sources::{Said, SourceKind, SourceLine, SourceReader};
@@ -15,12 +15,7 @@ use std::alloc::Global;
 use std::process::Abort;
 
 const FORMS: &[Form] = &[
-    Form {
-        head: "",
-        escape: b'\\',
-        comment: b'#',
-        end: "\n",
-    },
+    PLAIN,
     Form {
         head: "comment_char %\nescape_char /\n",
         escape: b'/',

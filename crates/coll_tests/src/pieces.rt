@@ -15,6 +15,14 @@ pub struct Form {
     pub end: &'static str,
 }
 
+/// Without directives.
+pub const PLAIN: Form = Form {
+    head: "",
+    escape: b'\\',
+    comment: b'#',
+    end: "\n",
+};
+
 impl Form {
     /// Puts a piece behind a text.
     pub fn push(self, rt: &impl Abort, text: &mut Vec<u8>, piece: &str) {

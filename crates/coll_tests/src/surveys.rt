@@ -4,7 +4,7 @@
 //! accepts are surveyed both ways.
 
 use crate::assertions::{assert_same, assert_that};
-use crate::pieces::Form;
+use crate::pieces::{Form, PLAIN};
 use crate::tables::examples::loaded;
 use coll_findings::{Told, Warned, WarnedKind};
 use coll_surveys::{survey_accepted, survey_table};
@@ -14,12 +14,7 @@ use std::alloc::Global;
 use std::process::Abort;
 
 const FORMS: &[Form] = &[
-    Form {
-        head: "",
-        escape: b'\\',
-        comment: b'#',
-        end: "\n",
-    },
+    PLAIN,
     Form {
         head: "comment_char %\nescape_char /\n",
         escape: b'/',

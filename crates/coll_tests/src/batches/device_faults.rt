@@ -8,12 +8,16 @@ use crate::tables::examples::{BASE_TABLE, text_of};
 use std::alloc::Global;
 use std::process::Abort;
 
-// A batch, its delta files and its output; an input, how many reads give its text to the last line feed, and the line that tells the
-// fault of each.
+// A batch, its delta files and its output, and its inputs.
 struct Read {
     asked: Asked,
     deltas: &'static [&'static str],
     output: Output,
+    inputs: &'static [InputReads],
+}
+
+// An input, how many reads give its text to the last line feed, and the line that tells the fault of each.
+struct InputReads {
     input: usize,
     reads: usize,
     line: &'static str,
@@ -21,59 +25,70 @@ struct Read {
 
 impl Read {
     // The inputs, of which one is read by this script.
-    fn inputs<'a>(&self, table: &'a [u8], script: Script) -> Inputs<'a> {
+    fn inputs<'a>(&self, table: &'a [u8], input: usize, script: Script) -> Inputs<'a> {
         Inputs {
             table,
             deltas: self.deltas,
-            read: InputRead {
-                input: self.input,
-                script,
-            },
+            read: InputRead { input, script },
         }
     }
 }
+
+const OF_TABLE: InputReads = InputReads {
+    input: 0,
+    reads: 147,
+    line: "B.txt:0: 67 ReadFault\n",
+};
+
+const OF_DELTA: InputReads = InputReads {
+    input: 1,
+    reads: 33,
+    line: "D.txt:0: 67 ReadFault\n",
+};
 
 const READS: &[Read] = &[
     Read {
         asked: Asked::Compile,
         deltas: &[],
         output: Output::Lines(BASE_LISTING),
-        input: 0,
-        reads: 147,
-        line: "B.txt:0: 67 ReadFault\n",
+        inputs: &[OF_TABLE],
     },
     Read {
         asked: Asked::Print,
         deltas: &[C_BEHIND_A],
         output: PRINTED,
-        input: 0,
-        reads: 147,
-        line: "B.txt:0: 67 ReadFault\n",
-    },
-    Read {
-        asked: Asked::Print,
-        deltas: &[C_BEHIND_A],
-        output: PRINTED,
-        input: 1,
-        reads: 33,
-        line: "D.txt:0: 67 ReadFault\n",
+        inputs: &[OF_TABLE, OF_DELTA],
     },
 ];
 
-// Asserts that each of these reads is the fault where it fails, and that no further one is made.
-fn assert_reads(rt: &impl Abort, alloc: Global, row: &Read, table: &[u8], fails: Step) {
-    for at in 1..=row.reads {
-        let inputs = row.inputs(table, Script::ButFor(at, fails));
-        assert_batch(rt, alloc, &row.asked, inputs, (2, b"", row.line));
+// Asserts that each read of an input is the fault where it fails, and that no further one is made.
+fn assert_reads(
+    rt: &impl Abort,
+    alloc: Global,
+    row: &Read,
+    of: &InputReads,
+    table: &[u8],
+    fails: Step,
+) {
+    for at in 1..=of.reads {
+        let inputs = row.inputs(table, of.input, Script::ButFor(at, fails));
+        assert_batch(rt, alloc, &row.asked, inputs, (2, b"", of.line));
     }
-    let inputs = row.inputs(table, Script::ButFor(row.reads.saturating_add(1), fails));
+    let behind = Script::ButFor(of.reads.saturating_add(1), fails);
+    let inputs = row.inputs(table, of.input, behind);
     let output = row.output.text(rt, alloc);
     assert_batch(rt, alloc, &row.asked, inputs, (0, &output, ""));
 }
 
-fn assert_row(rt: &impl Abort, alloc: Global, row: &Read, table: &[u8]) {
+fn assert_input(rt: &impl Abort, alloc: Global, row: &Read, of: &InputReads, table: &[u8]) {
     for fails in FAILED_READS {
-        assert_reads(rt, alloc, row, table, *fails);
+        assert_reads(rt, alloc, row, of, table, *fails);
+    }
+}
+
+fn assert_row(rt: &impl Abort, alloc: Global, row: &Read, table: &[u8]) {
+    for of in row.inputs {
+        assert_input(rt, alloc, row, of, table);
     }
 }
 

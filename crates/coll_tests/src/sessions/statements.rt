@@ -66,25 +66,10 @@ reorder-end
 :undo
 :print
 | ok 1
-| comment_char %
-| escape_char /
-| LC_COLLATE
-| collating-symbol <BASE>
-| collating-symbol <MIN>
-| collating-symbol <CAP>
-| order_start forward;backward;forward;forward,position
-| <BASE>
-| <MIN>
-| <CAP>
-| <U0061> <U0061>;<BASE>;<MIN>;IGNORE
-| <U0041> <U0061>;<BASE>;<CAP>;IGNORE
-| <U0062> <U0062>;<BASE>;<MIN>;IGNORE
-| <U0063> <U0063>;<BASE>;<MIN>;IGNORE
-| <U0064> <U0064>;<BASE>;<MIN>;IGNORE
+| the base table to <U0064> <U0064>;<BASE>;<MIN>;IGNORE
 | <U002D> IGNORE;IGNORE;IGNORE;<U002D>
 | section <PUNCT>
-| order_end
-| END LC_COLLATE
+| the base table from order_end
 | undone 0
 | the base table
 
@@ -106,47 +91,13 @@ reorder-end
 UNDEFINED <BASE>
 :print
 | ok 1
-| comment_char %
-| escape_char /
-| LC_COLLATE
-| collating-symbol <BASE>
-| collating-symbol <MIN>
-| collating-symbol <CAP>
-| order_start forward;backward;forward;forward,position
-| <BASE>
-| <MIN>
-| <CAP>
+| the base table to <CAP>
 | UNDEFINED ;IGNORE;IGNORE;IGNORE
-| <U0061> <U0061>;<BASE>;<MIN>;IGNORE
-| <U0041> <U0061>;<BASE>;<CAP>;IGNORE
-| <U0062> <U0062>;<BASE>;<MIN>;IGNORE
-| <U0063> <U0063>;<BASE>;<MIN>;IGNORE
-| <U0064> <U0064>;<BASE>;<MIN>;IGNORE
-| section <PUNCT>
-| <U002D> IGNORE;IGNORE;IGNORE;<U002D>
-| order_end
-| END LC_COLLATE
+| the base table from <U0061> <U0061>;<BASE>;<MIN>;IGNORE
 | ok 2
-| comment_char %
-| escape_char /
-| LC_COLLATE
-| collating-symbol <BASE>
-| collating-symbol <MIN>
-| collating-symbol <CAP>
-| order_start forward;backward;forward;forward,position
-| <BASE>
-| <MIN>
-| <CAP>
+| the base table to <CAP>
 | UNDEFINED <BASE>;;;
-| <U0061> <U0061>;<BASE>;<MIN>;IGNORE
-| <U0041> <U0061>;<BASE>;<CAP>;IGNORE
-| <U0062> <U0062>;<BASE>;<MIN>;IGNORE
-| <U0063> <U0063>;<BASE>;<MIN>;IGNORE
-| <U0064> <U0064>;<BASE>;<MIN>;IGNORE
-| section <PUNCT>
-| <U002D> IGNORE;IGNORE;IGNORE;<U002D>
-| order_end
-| END LC_COLLATE
+| the base table from <U0061> <U0061>;<BASE>;<MIN>;IGNORE
 
 -- A declaration that was taken back is none, and a refused statement leaves what can be put again.
 collating-symbol <X>
@@ -298,12 +249,7 @@ reorder-end
 | ok 2
 | ok 3
 | ok 4
-| comment_char %
-| escape_char /
-| LC_COLLATE
-| collating-symbol <BASE>
-| collating-symbol <MIN>
-| collating-symbol <CAP>
+| the base table to collating-symbol <CAP>
 | symbol-equivalence <LOW> <MIN>
 | symbol-equivalence <SMALL> <MIN>
 | order_start forward;backward;forward;forward,position
@@ -313,12 +259,7 @@ reorder-end
 | <U0061> <U0061>;<BASE>;<MIN>;IGNORE
 | <U0041> <U0061>;<BASE>;<CAP>;IGNORE
 | <U0062> <U0062>;<MIN>;<U0062>;<U0062>
-| <U0063> <U0063>;<BASE>;<MIN>;IGNORE
-| <U0064> <U0064>;<BASE>;<MIN>;IGNORE
-| section <PUNCT>
-| <U002D> IGNORE;IGNORE;IGNORE;<U002D>
-| order_end
-| END LC_COLLATE
+| the base table from <U0063> <U0063>;<BASE>;<MIN>;IGNORE
 
 collating-element <ch> from "ch"
 symbol-equivalence <Z> <ch>

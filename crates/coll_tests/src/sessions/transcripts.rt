@@ -1,8 +1,9 @@
 //! Transcripts of sessions over the base table: lines, and behind the line that completes it, each line of a reply.
 //!
-//! A line of a reply begins with a bar; `| the base table` stands for all lines of that table. A row that begins with `--` says what a
-//! session shows.
+//! A line of a reply begins with a bar; `| the base table` stands for all lines of that table, `| the base table to LINE` for those up to
+//! this one, and `| the base table from LINE` for it and those behind it. A row that begins with `--` says what a session shows.
 
+use crate::statements::Lines;
 use crate::tables::examples::{BASE_TABLE, push_lines};
 use std::alloc::Global;
 use std::process::Abort;
@@ -132,10 +133,35 @@ impl Course {
             None if row.starts_with("--") => (),
             None => push_lines(rt, &mut self.text, &[row]),
             Some(_) if self.text.len() > bytes => (),
-            Some(reply) if reply == "the base table" => {
-                push_lines(rt, &mut self.replies, BASE_TABLE);
-            }
-            Some(reply) => push_lines(rt, &mut self.replies, &[reply]),
+            Some(reply) => match base_lines(reply) {
+                Some(lines) => push_lines(rt, &mut self.replies, lines),
+                None => push_lines(rt, &mut self.replies, &[reply]),
+            },
         }
     }
+}
+
+// The lines of the base table that a reply stands for, if it stands for some.
+fn base_lines(reply: &str) -> Option<Lines> {
+    if reply == "the base table" {
+        return Some(BASE_TABLE);
+    }
+    if let Some(last) = reply.strip_prefix("the base table to ") {
+        let place = place_of(last)?;
+        let (front, _) = BASE_TABLE.split_at_checked(place.saturating_add(1))?;
+        return Some(front);
+    }
+    let first = reply.strip_prefix("the base table from ")?;
+    let (_, rest) = BASE_TABLE.split_at_checked(place_of(first)?)?;
+    Some(rest)
+}
+
+// The place of a line of the base table.
+fn place_of(wanted: &str) -> Option<usize> {
+    for (place, line) in BASE_TABLE.iter().enumerate() {
+        if *line == wanted {
+            return Some(place);
+        }
+    }
+    None
 }

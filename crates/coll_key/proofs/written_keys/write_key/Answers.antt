@@ -11,13 +11,11 @@ returns-in_err-write_level g c =
     let level = c.split_level.result.0.now in
     let left = c.split_level.result.1.now in
     let first = c.in-Some.first.now in
-    let later = c.in-Some.later.now in
-    let whole = written_key c.args.rules.now c.args.key.now in
-    let begins = joined_by_spaces (level_words first.position level) in
-    let rest = flat_map behind_space (key_words later left) in
-    let parts = key_parts c.args.rules.now later first c.args.key.now level left c.in-Some.ensures.cases.0 c.split_level.ensures.level c.split_level.ensures.later in
+    let parts = key_parts c.args.rules.now c.in-Some.later.now first c.args.key.now level left c.in-Some.ensures.cases.0 c.split_level.ensures.level c.split_level.ensures.later in
     record {
-      sent = stops_first (taken c.args.out.now) (taken c.write_level.new.out) whole begins rest c.from_residual.result parts c.from_residual.ensures.0 c.in_err-write_level.ensures.sent;
+      sent = stops_first (taken c.args.out.now) (taken c.write_level.new.out) (written_key c.args.rules.now c.args.key.now)
+          (joined_by_spaces (level_words first.position level)) (flat_map behind_space (key_words c.in-Some.later.now left))
+          c.from_residual.result parts c.from_residual.ensures.0 c.in_err-write_level.ensures.sent;
       errors = search rules;
     }
 
@@ -27,13 +25,10 @@ returns g c =
     let level = c.split_level.result.0.now in
     let left = c.split_level.result.1.now in
     let first = c.in-Some.first.now in
-    let later = c.in-Some.later.now in
-    let whole = written_key c.args.rules.now c.args.key.now in
-    let begins = joined_by_spaces (level_words first.position level) in
-    let rest = flat_map behind_space (key_words later left) in
-    let parts = key_parts c.args.rules.now later first c.args.key.now level left c.in-Some.ensures.cases.0 c.split_level.ensures.level c.split_level.ensures.later in
+    let parts = key_parts c.args.rules.now c.in-Some.later.now first c.args.key.now level left c.in-Some.ensures.cases.0 c.split_level.ensures.level c.split_level.ensures.later in
     record {
-      sent = writes_rest (taken c.args.out.now) (taken c.write_level.new.out) (taken c.write_later_levels.new.out) whole begins rest c.write_later_levels.result parts c.in_ok-write_level.ensures.sent
+      sent = writes_rest (taken c.args.out.now) (taken c.write_level.new.out) (taken c.write_later_levels.new.out) (written_key c.args.rules.now c.args.key.now)
+          (joined_by_spaces (level_words first.position level)) (flat_map behind_space (key_words c.in-Some.later.now left)) c.write_later_levels.result parts c.in_ok-write_level.ensures.sent
           c.write_later_levels.ensures.sent;
       errors = search rules;
     }

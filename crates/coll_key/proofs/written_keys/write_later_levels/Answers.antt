@@ -8,20 +8,22 @@ use Rattle.coll_key.proofs.WritingSteps.{left_prefix, left_less}
 use Rattle.coll_key.proofs.WrittenKeys.{levels_left}
 use Rattle.coll_key.proofs.written_keys.write_later_levels.Goals as goal
 
+-- what stands behind the last rule
+abbrev no_rule : Rule
+no_rule = record { backward = false; position = false }
+
 pub returns-in-Err : goal.returns-in-Err
 returns-in-Err g c =
     let taken = g.W.Sink.taken in
     let given = c.args.rules.now in
     let i = c.loop-rule.rule-index in
-    let left = c.loop-rule.left.now in
     let level = c.split_level.result.0.now in
     let later = c.split_level.result.1.now in
-    let none : Rule = record { backward = false; position = false } in
     record {
-      sent = left_prefix (flat_map behind_space (key_words given c.args.key.now)) (flat_map behind_space (key_words (drop i given) left))
-          (space ∷ joined_by_spaces (level_words (get_or given i none).position level)) (flat_map behind_space (key_words (drop (i + 1) given) later)) (taken c.args.out.now) (taken c.loop-rule.out)
+      sent = left_prefix (flat_map behind_space (key_words given c.args.key.now)) (flat_map behind_space (key_words (drop i given) c.loop-rule.left.now))
+          (space ∷ joined_by_spaces (level_words (get_or given i no_rule).position level)) (flat_map behind_space (key_words (drop (i + 1) given) later)) (taken c.args.out.now) (taken c.loop-rule.out)
           (taken c.write_level_behind.new.out)
-          (levels_left given i none c.loop-rule-test.true left level later c.split_level.ensures.level c.split_level.ensures.later) c.loop-rule.invariant.sent c.in-Err.ensures.sent;
+          (levels_left given i no_rule c.loop-rule-test.true c.loop-rule.left.now level later c.split_level.ensures.level c.split_level.ensures.later) c.loop-rule.invariant.sent c.in-Err.ensures.sent;
       errors = search rules;
     }
 
@@ -30,14 +32,12 @@ loop-rule-preserved g c =
     let taken = g.W.Sink.taken in
     let given = c.args.rules.now in
     let i = c.loop-rule.rule-index in
-    let left = c.loop-rule.left.now in
     let level = c.split_level.result.0.now in
     let later = c.split_level.result.1.now in
-    let none : Rule = record { backward = false; position = false } in
     record {
-      sent = left_less (flat_map behind_space (key_words given c.args.key.now)) (flat_map behind_space (key_words (drop i given) left))
-          (space ∷ joined_by_spaces (level_words (get_or given i none).position level)) (flat_map behind_space (key_words (drop (i + 1) given) later)) (taken c.args.out.now) (taken c.loop-rule.out)
+      sent = left_less (flat_map behind_space (key_words given c.args.key.now)) (flat_map behind_space (key_words (drop i given) c.loop-rule.left.now))
+          (space ∷ joined_by_spaces (level_words (get_or given i no_rule).position level)) (flat_map behind_space (key_words (drop (i + 1) given) later)) (taken c.args.out.now) (taken c.loop-rule.out)
           (taken c.write_level_behind.new.out)
-          (levels_left given i none c.loop-rule-test.true left level later c.split_level.ensures.level c.split_level.ensures.later) c.loop-rule.invariant.sent c.in_default.ensures.sent;
+          (levels_left given i no_rule c.loop-rule-test.true c.loop-rule.left.now level later c.split_level.ensures.level c.split_level.ensures.later) c.loop-rule.invariant.sent c.in_default.ensures.sent;
       count = c.in_default.ensures.errors ∙ c.loop-rule.invariant.count;
     }

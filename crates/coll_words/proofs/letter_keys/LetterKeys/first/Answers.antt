@@ -9,14 +9,17 @@ use Rattle.coll_words.proofs.LetterKeyLemmas.{begins_kept, plain_alone}
 use Rattle.coll_letters.proofs.MarkLemmas.{stands_apart}
 use Rattle.coll_words.proofs.letter_keys.LetterKeys.first.Goals as goal
 
+-- what stands behind the last
+abbrev no_key : LetterKey
+no_key = record { letter = 0; number = 0; row = record { first = 0; code = 0 } }
+
 pub returns-then-kept-gt0 : goal.returns-then-kept-gt0
 returns-then-kept-gt0 c =
     let table = collation c.args._table.now in
     let weights = c.args.self.now.weights.made.weights in
-    let none : LetterKey = record { letter = 0; number = 0; row = record { first = 0; code = 0 } } in
-    let kept = get_or c.deref-letters.result.now c.in_ok-place.field-0 none in
+    let kept = get_or c.deref-letters.result.now c.in_ok-place.field-0 no_key in
     let all : All (IsLetterKey table weights) c.deref-letters.result.now = subst (All (IsLetterKey table weights)) (sym c.deref-letters.ensures.value) c.requires.letters in
-    let is : IsLetterKey table weights kept = all c.in_ok-place.field-0 none (omega (arith, c.if-place-letters.true)) in
+    let is : IsLetterKey table weights kept = all c.in_ok-place.field-0 no_key (omega (arith, c.if-place-letters.true)) in
     begins_kept table weights (chars c.args.text.now) c.in_ok-letter.letter _ c.in_ok-letter.ensures c.if-kept-letter.true is
     (plain_alone table weights c.in_ok-letter.letter kept (chars c.in_ok-letter.rest.now) c.if-kept-letter.true is c.if-kept-gt0.true)
 
@@ -24,10 +27,9 @@ pub returns-then-is_apart : goal.returns-then-is_apart
 returns-then-is_apart c =
     let table = collation c.args._table.now in
     let weights = c.args.self.now.weights.made.weights in
-    let none : LetterKey = record { letter = 0; number = 0; row = record { first = 0; code = 0 } } in
-    let kept = get_or c.deref-letters.result.now c.in_ok-place.field-0 none in
+    let kept = get_or c.deref-letters.result.now c.in_ok-place.field-0 no_key in
     let all : All (IsLetterKey table weights) c.deref-letters.result.now = subst (All (IsLetterKey table weights)) (sym c.deref-letters.ensures.value) c.requires.letters in
-    let is : IsLetterKey table weights kept = all c.in_ok-place.field-0 none (omega (arith, c.if-place-letters.true)) in
+    let is : IsLetterKey table weights kept = all c.in_ok-place.field-0 no_key (omega (arith, c.if-place-letters.true)) in
     begins_kept table weights (chars c.args.text.now) c.in_ok-letter.letter _ c.in_ok-letter.ensures c.if-kept-letter.true is
     (stands_apart table c.args.self.now.weights.marks c.requires.weights.marks c.in_ok-letter.letter (chars c.in_ok-letter.rest.now)
     (subst (λ (marks : ElementMarks). IsApart marks c.in_ok-letter.letter (chars c.in_ok-letter.rest.now)) c.marks.ensures (c.is_apart.ensures c.if-is_apart.true)))
