@@ -23,12 +23,11 @@ returns-in_err-line-in-Ok-true-clause-fault g c =
     let failed = g.R.Source.failed in
     let gives = gives_line c.lines.reader c.advance.new.self (left c.lines.input) (left c.advance.new.input) (failed c.lines.input) (failed c.advance.new.input) c.in-Ok-true.field-0
     c.in-Ok-true.field-0-test c.in-Ok-true.ensures in
-    let given : c.line.result.now ≡ c.advance.new.self.line = c.line.ensures in
     let p = err_from_is_err_and c.from_residual.result c.from_residual.ensures.1 in
     let fault = c.in_err-line-in-Ok-true.field-0.0 in
     rw (p.1, p.2) (refused (left c.args.input.now) c.lines.reader (left c.lines.input) c.lines.loader c.lines.invariant.way c.lines.invariant.going c.advance.new.self (left c.advance.new.input)
     (failed c.lines.input) (failed c.advance.new.input) fault gives c.in_err-line-in-Ok-true.ensures.cause c.in_err-line-in-Ok-true.ensures.starved_at
-    (λ memory. subst (λ line. loaded_line c.lines.loader line ≡ Err fault) given (c.in_err-line-in-Ok-true.ensures.err memory)))
+    (λ memory. subst (λ line. loaded_line c.lines.loader line ≡ Err fault) c.line.ensures (c.in_err-line-in-Ok-true.ensures.err memory)))
 
 pub returns-in_err-line-in-Ok-true-clause-errors : goal.returns-in_err-line-in-Ok-true-clause-errors
 returns-in_err-line-in-Ok-true-clause-errors g c =
@@ -80,9 +79,8 @@ returns-then-finished-clause-read g c =
     let failed = g.R.Source.failed in
     let gives = gives_line c.lines.reader c.advance.new.self (left c.lines.input) (left c.advance.new.input) (failed c.lines.input) (failed c.advance.new.input) c.in-Ok-true.field-0
     c.in-Ok-true.field-0-test c.in-Ok-true.ensures in
-    let given : c.line.result.now ≡ c.advance.new.self.line = c.line.ensures in
     let taken : loaded_line c.lines.loader c.advance.new.self.line ≡ Ok c.line-in-Ok-true.new.self =
-    subst (λ line. loaded_line c.lines.loader line ≡ Ok c.line-in-Ok-true.new.self) given c.in_ok-line-in-Ok-true.ensures.ok in
+    subst (λ line. loaded_line c.lines.loader line ≡ Ok c.line-in-Ok-true.new.self) c.line.ensures c.in_ok-line-in-Ok-true.ensures.ok in
     let way = goes_on (left c.args.input.now) c.lines.reader (left c.lines.input) c.lines.loader c.lines.invariant.way c.lines.invariant.going c.advance.new.self (left c.advance.new.input)
     (failed c.lines.input) (failed c.advance.new.input) c.line-in-Ok-true.new.self gives taken in
     ended_reads (left c.args.input.now) c.advance.new.self (left c.advance.new.input) c.line-in-Ok-true.new.self way (sym c.finished.ensures ∙ c.if-finished.true)
@@ -93,12 +91,10 @@ returns-then-finished-clause-faultless g c =
     let failed = g.R.Source.failed in
     let gives = gives_line c.lines.reader c.advance.new.self (left c.lines.input) (left c.advance.new.input) (failed c.lines.input) (failed c.advance.new.input) c.in-Ok-true.field-0
     c.in-Ok-true.field-0-test c.in-Ok-true.ensures in
-    let given : c.line.result.now ≡ c.advance.new.self.line = c.line.ensures in
     let taken : loaded_line c.lines.loader c.advance.new.self.line ≡ Ok c.line-in-Ok-true.new.self =
-    subst (λ line. loaded_line c.lines.loader line ≡ Ok c.line-in-Ok-true.new.self) given c.in_ok-line-in-Ok-true.ensures.ok in
-    let way = goes_on (left c.args.input.now) c.lines.reader (left c.lines.input) c.lines.loader c.lines.invariant.way c.lines.invariant.going c.advance.new.self (left c.advance.new.input)
-    (failed c.lines.input) (failed c.advance.new.input) c.line-in-Ok-true.new.self gives taken in
-    way.stands.faultless
+    subst (λ line. loaded_line c.lines.loader line ≡ Ok c.line-in-Ok-true.new.self) c.line.ensures c.in_ok-line-in-Ok-true.ensures.ok in
+    (goes_on (left c.args.input.now) c.lines.reader (left c.lines.input) c.lines.loader c.lines.invariant.way c.lines.invariant.going c.advance.new.self (left c.advance.new.input)
+    (failed c.lines.input) (failed c.advance.new.input) c.line-in-Ok-true.new.self gives taken).stands.faultless
 
 pub returns-then-finished-clause-errors : goal.returns-then-finished-clause-errors
 returns-then-finished-clause-errors g c =
@@ -112,9 +108,8 @@ pub lines-smaller : goal.lines-smaller
 lines-smaller g c =
     let left = g.R.Source.left in
     let failed = g.R.Source.failed in
-    let given : c.line.result.now ≡ c.advance.new.self.line = c.line.ensures in
     let taken : loaded_line c.lines.loader c.advance.new.self.line ≡ Ok c.line-in-Ok-true.new.self =
-    subst (λ line. loaded_line c.lines.loader line ≡ Ok c.line-in-Ok-true.new.self) given c.in_ok-line-in-Ok-true.ensures.ok in
+    subst (λ line. loaded_line c.lines.loader line ≡ Ok c.line-in-Ok-true.new.self) c.line.ensures c.in_ok-line-in-Ok-true.ensures.ok in
     let one = counts (left c.args.input.now) c.lines.reader (left c.lines.input) c.lines.loader c.lines.invariant.way c.lines.invariant.going c.advance.new.self (left c.advance.new.input)
     (failed c.lines.input) (failed c.advance.new.input) c.advance.new.self.line c.line-in-Ok-true.new.self taken (sym c.finished.ensures ∙ c.if-finished.false) in
     omega (arith, one.0, one.1)
@@ -125,9 +120,8 @@ lines-preserved g c =
     let failed = g.R.Source.failed in
     let gives = gives_line c.lines.reader c.advance.new.self (left c.lines.input) (left c.advance.new.input) (failed c.lines.input) (failed c.advance.new.input) c.in-Ok-true.field-0
     c.in-Ok-true.field-0-test c.in-Ok-true.ensures in
-    let given : c.line.result.now ≡ c.advance.new.self.line = c.line.ensures in
     let taken : loaded_line c.lines.loader c.advance.new.self.line ≡ Ok c.line-in-Ok-true.new.self =
-    subst (λ line. loaded_line c.lines.loader line ≡ Ok c.line-in-Ok-true.new.self) given c.in_ok-line-in-Ok-true.ensures.ok in
+    subst (λ line. loaded_line c.lines.loader line ≡ Ok c.line-in-Ok-true.new.self) c.line.ensures c.in_ok-line-in-Ok-true.ensures.ok in
     record {
       way = goes_on (left c.args.input.now) c.lines.reader (left c.lines.input) c.lines.loader c.lines.invariant.way c.lines.invariant.going c.advance.new.self (left c.advance.new.input)
           (failed c.lines.input) (failed c.advance.new.input) c.line-in-Ok-true.new.self gives taken;
