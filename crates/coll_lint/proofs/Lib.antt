@@ -1,5 +1,3 @@
 pub mod KeptLemmas
 pub mod LintCases
-pub mod MarkedLemmas
-pub mod NumberedLemmas
 pub mod OrderLemmas

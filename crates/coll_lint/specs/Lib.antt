@@ -2,9 +2,5 @@ pub mod Counts
 pub mod KeptTexts
 pub mod LintLines
 pub mod Lints
-pub mod MarkedLines
-pub mod NumberedLines
 pub mod Orders
-pub mod RefusedLines
-pub mod SpelledPlaces
 pub mod WarningLines

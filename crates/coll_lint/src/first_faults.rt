@@ -24,7 +24,7 @@ pub(crate) fn put_first(first: RunFault, faults: &mut Vec<FoundFault>) -> Result
 }
 
 /// What is told of a fault that a batch answers. It is taken out of the faults of a survey where it is among them.
-pub(crate) fn found_as(first: RunFault, faults: &mut Vec<FoundFault>) -> FoundFault
+pub fn found_as(first: RunFault, faults: &mut Vec<FoundFault>) -> FoundFault
     ensures fault { result.fault ≡ first }
     ensures others { AreOthers faults.old.items faults.new.items }
     ensures once { AreOnce faults.old.items → AreOnce (result ∷ faults.new.items) }

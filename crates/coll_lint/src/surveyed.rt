@@ -13,7 +13,7 @@ const MARK: &[u8] = b"\xEF\xBB\xBF";
 
 /// What a survey tells, its faults by the order of the lines, with names that are near to those that aren't declared, and with
 /// warnings of byte order marks at the beginning of a table and a delta file. No fault is lost or told twice.
-pub(crate) fn told_of(
+pub fn told_of(
     alloc: Global,
     mut surveyed: Surveyed,
     table: &[u8],

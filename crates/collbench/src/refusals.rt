@@ -15,9 +15,9 @@ use coll_advice::meant_name;
 use coll_bench::{Fault, RunFault, read_inputs};
 use coll_findings::About;
 use coll_lex::{Counted, TextBuf, past_blanks};
-use coll_lint::{
-    RefusedLine, keep_text, refused_alone, refused_at, refused_in_delta, refused_in_table,
-    write_refused,
+use coll_lint::keep_text;
+use coll_refused_lines::{
+    RefusedLine, refused_alone, refused_at, refused_in_delta, refused_in_table, write_refused,
 };
 use coll_sources::SourceFault;
 use coll_table::{HashKeys, LoadCause, Table};

@@ -5,9 +5,9 @@
 
 ghost use Rattle.std.specs.Prelude.{◌≡◌, ◌≤◌, ◌++◌, length, take, replicate, chars, encode_utf8_all, string_bytes, IfOk, OnOk};
 ghost use Rattle.coll_lex.specs.Characters.{space};
-ghost use Rattle.coll_lint.specs.MarkedLines.{columns_at, columns_behind, first_shown, margin_below, mark_column, mark_line};
-ghost use Rattle.coll_lint.specs.MarkedLines.{marked_columns};
-ghost use Rattle.coll_lint.specs.MarkedLines.{shown_line, visible as visible_one, with_bytes};
+ghost use Rattle.coll_refused_lines.specs.MarkedLines.{columns_at, columns_behind, first_shown, margin_below, mark_column, mark_line};
+ghost use Rattle.coll_refused_lines.specs.MarkedLines.{marked_columns};
+ghost use Rattle.coll_refused_lines.specs.MarkedLines.{shown_line, visible as visible_one, with_bytes};
 
 use itoa::Buffer;
 use std::alloc::{AllocError, Global};

@@ -1,8 +1,8 @@
 -- Behind what is put, what is left gives the whole.
 use Rattle.std.proofs.Common.{◌≡◌, drop, length}
 use Rattle.std.specs.Prelude.{chars}
-use Rattle.coll_lint.specs.MarkedLines.{columns_behind}
-use Rattle.coll_lint.proofs.marked_lines.put_text.Given as goal
+use Rattle.coll_refused_lines.specs.MarkedLines.{columns_behind}
+use Rattle.coll_refused_lines.proofs.marked_lines.put_text.Given as goal
 
 abbrev pub invariant-loop-c : goal.invariant-loop-c
 invariant-loop-c l =

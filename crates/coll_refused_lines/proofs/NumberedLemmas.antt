@@ -2,7 +2,7 @@
 use Rattle.std.proofs.Common.{◌≡◌, ◌+◌, ◌-◌, ◌<◌, ℕ, suc, List, [], ◌∷◌, length, get_or, drop, ap, sym, ◌∙◌, arith}
 use Rattle.std.proofs.lemmas.List.{drop-drop, get_or-drop, length-drop}
 use Rattle.coll_devices.specs.PhysicalLines.{lines_of, without_return}
-use Rattle.coll_lint.specs.NumberedLines.{IsLineAt}
+use Rattle.coll_refused_lines.specs.NumberedLines.{IsLineAt}
 
 -- one more line is passed
 pub one_more : (lines left later : List (List ℕ)) (n : ℕ) (first : List ℕ) → drop n lines ≡ left → left ≡ first ∷ later → drop (n + 1) lines ≡ later

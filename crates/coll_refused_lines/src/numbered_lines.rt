@@ -1,7 +1,7 @@
 //! A line of a text by its number, and a lexer that stands before it.
 
 ghost use Rattle.std.specs.Prelude.{IfSome};
-ghost use Rattle.coll_lint.specs.NumberedLines.{IsLineAt};
+ghost use Rattle.coll_refused_lines.specs.NumberedLines.{IsLineAt};
 
 use coll_findings::first_line;
 use coll_lex::{Lexer, without_return};

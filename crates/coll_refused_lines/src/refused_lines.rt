@@ -7,17 +7,16 @@
 ghost use Rattle.std.specs.Prelude.{◌≡◌, IfOk, IfSome, None};
 ghost use Rattle.coll_devices.specs.Devices.{Writes};
 ghost use Rattle.coll_findings.specs.declared.findings.About.TheVariants as about;
-ghost use Rattle.coll_lint.specs.RefusedLines.{IsFirstPart, IsOfLine, advice_told, refused_text, shown_told, what_to_do};
+ghost use Rattle.coll_refused_lines.specs.RefusedLines.{IsFirstPart, IsOfLine, advice_told, refused_text, shown_told, what_to_do};
 
-use crate::first_faults::found_as;
 use crate::marked_lines::{MarkedLine, marked_line};
 use crate::numbered_lines::{lexer_at, line_at};
 use crate::spelled_places::{Sought, place_in};
-use crate::surveyed::told_of;
 use coll_advice::advice_of;
 use coll_devices::{MOST_LINE_BYTES, Sink, WriteStop};
 use coll_faults::RunFault;
 use coll_findings::{About, FoundFault, Told};
+use coll_lint::{found_as, told_of};
 use coll_lookups::HashKeys;
 use coll_surveys::{survey_delta, survey_table};
 use coll_table::Table;

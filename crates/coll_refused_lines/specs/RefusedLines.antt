@@ -5,10 +5,10 @@ use Rattle.coll_devices.specs.PhysicalLines.{line_feed}
 use Rattle.coll_texts.specs.PrintedParts.{symbol_bytes}
 use Rattle.coll_findings.specs.declared.findings.About.{About}
 use Rattle.coll_findings.specs.declared.findings.About.TheVariants as about
-use Rattle.coll_lint.specs.MarkedLines.{margin_below, mark_line, shown_line}
-use Rattle.coll_lint.specs.NumberedLines.{IsLineAt}
-use Rattle.coll_lint.specs.declared.marked_lines.MarkedLine.{MarkedLine}
-use Rattle.coll_lint.specs.declared.refused_lines.RefusedLine.{RefusedLine}
+use Rattle.coll_refused_lines.specs.MarkedLines.{margin_below, mark_line, shown_line}
+use Rattle.coll_refused_lines.specs.NumberedLines.{IsLineAt}
+use Rattle.coll_refused_lines.specs.declared.marked_lines.MarkedLine.{MarkedLine}
+use Rattle.coll_refused_lines.specs.declared.refused_lines.RefusedLine.{RefusedLine}
 
 -- this part of a line is all of it, or so many of its first bytes
 pub record IsFirstPart (most : ℕ) (line part : List ℕ) : Type 0 where

@@ -1,6 +1,6 @@
 -- The columns of characters, one behind another.
 use Rattle.std.proofs.Common.{◌≡◌, ◌+◌, ◌<◌, ℕ, List, ◌∷◌, ◌++◌, length, get_or, drop, ap, sym, ◌∙◌}
-use Rattle.coll_lint.specs.MarkedLines.{columns_at, columns_behind}
+use Rattle.coll_refused_lines.specs.MarkedLines.{columns_at, columns_behind}
 use Rattle.std.proofs.lemmas.List.{drop_more}
 
 -- one more character is put

@@ -4,9 +4,9 @@ use Rattle.std.specs.Str.{chars}
 use Rattle.std.proofs.lemmas.Iterator.{YieldsList-from_chars}
 use Rattle.std.proofs.lemmas.Iterator.Consumers.{YieldsList-turn, YieldsList-end}
 use Rattle.std.proofs.lemmas.List.{length_push, drop_all}
-use Rattle.coll_lint.specs.MarkedLines.{columns_behind}
-use Rattle.coll_lint.proofs.MarkedLemmas.{one_more}
-use Rattle.coll_lint.proofs.marked_lines.put_text.Goals as goal
+use Rattle.coll_refused_lines.specs.MarkedLines.{columns_behind}
+use Rattle.coll_refused_lines.proofs.MarkedLemmas.{one_more}
+use Rattle.coll_refused_lines.proofs.marked_lines.put_text.Goals as goal
 
 pub loop-c-preserved : goal.loop-c-preserved
 loop-c-preserved c =

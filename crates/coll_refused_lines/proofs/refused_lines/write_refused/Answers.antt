@@ -1,8 +1,8 @@
 -- The second part stands behind the first.
 use Rattle.std.proofs.Common.{rules}
 use Rattle.coll_devices.proofs.WritingLemmas.{Sends-after}
-use Rattle.coll_lint.specs.RefusedLines.{advice_told, refused_text, shown_told}
-use Rattle.coll_lint.proofs.refused_lines.write_refused.Goals as goal
+use Rattle.coll_refused_lines.specs.RefusedLines.{advice_told, refused_text, shown_told}
+use Rattle.coll_refused_lines.proofs.refused_lines.write_refused.Goals as goal
 
 pub returns-in-Ok : goal.returns-in-Ok
 unfolding refused_text

@@ -5,7 +5,7 @@
 //! Where nothing is found, the whole line is marked but its indent and the blanks at its end. Of the places nothing is proved but that
 //! they stand in the line; tests show them.
 
-ghost use Rattle.coll_lint.specs.SpelledPlaces.{IsPartOf};
+ghost use Rattle.coll_refused_lines.specs.SpelledPlaces.{IsPartOf};
 
 use coll_lex::{Chars, Lexer, past_blanks};
 use coll_syntax::Id;

@@ -1,7 +1,7 @@
 -- What is cut off stands behind, and where less is left nothing is.
 use Rattle.std.proofs.Common.{◌≡◌, arith, drop, length, sym, take}
 use Rattle.std.proofs.lemmas.List.{length-take-le, take-append-drop}
-use Rattle.coll_lint.proofs.refused_lines.first_part.Goals as goal
+use Rattle.coll_refused_lines.proofs.refused_lines.first_part.Goals as goal
 
 pub returns : goal.returns
 returns c =

@@ -1,0 +1,2 @@
+pub mod MarkedLemmas
+pub mod NumberedLemmas

@@ -1,0 +1,4 @@
+pub mod MarkedLines
+pub mod NumberedLines
+pub mod RefusedLines
+pub mod SpelledPlaces
