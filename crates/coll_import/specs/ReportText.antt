@@ -3,16 +3,16 @@ use Rattle.std.specs.Prelude.{ℕ, List, [], ◌∷◌, ◌++◌, slice_get, unw
 use Rattle.std.specs.List.{flat_map}
 use Rattle.coll_texts.specs.Pieces.{words_line}
 use Rattle.coll_texts.specs.PrintedParts.{id_bytes}
-use Rattle.coll_sources.specs.Adjustments.{adjustment_name, all_kinds}
-use Rattle.coll_sources.specs.Reports.{ReportValue, tally_of}
-use Rattle.coll_sources.specs.SourceFaults.{source_cause_number, source_cause_name}
-use Rattle.coll_sources.specs.declared.places.SourcePlace.{SourcePlace}
-use Rattle.coll_sources.specs.declared.adjustments.Adjustment.{Adjustment}
-use Rattle.coll_sources.specs.declared.adjustments.Tally.{Tally}
-use Rattle.coll_sources.specs.declared.adjustments.Loss.{Loss}
-use Rattle.coll_sources.specs.declared.adjustments.Lost.{Lost}
-use Rattle.coll_sources.specs.declared.adjustments.Lost.TheVariants.{Id, Word}
-use Rattle.coll_sources.specs.declared.source_faults.SourceFault.{SourceFault}
+use Rattle.coll_source_lines.specs.Adjustments.{adjustment_name, all_kinds}
+use Rattle.coll_source_lines.specs.Reports.{ReportValue, tally_of}
+use Rattle.coll_source_lines.specs.SourceFaults.{source_cause_number, source_cause_name}
+use Rattle.coll_source_lines.specs.declared.places.SourcePlace.{SourcePlace}
+use Rattle.coll_source_lines.specs.declared.adjustments.Adjustment.{Adjustment}
+use Rattle.coll_source_lines.specs.declared.adjustments.Tally.{Tally}
+use Rattle.coll_source_lines.specs.declared.adjustments.Loss.{Loss}
+use Rattle.coll_source_lines.specs.declared.adjustments.Lost.{Lost}
+use Rattle.coll_source_lines.specs.declared.adjustments.Lost.TheVariants.{Id, Word}
+use Rattle.coll_source_lines.specs.declared.source_faults.SourceFault.{SourceFault}
 
 -- the name of a text, or `-` where it has none
 abbrev pub name_told : (names : List (List ℕ)) → (text : ℕ) → List ℕ

@@ -3,8 +3,8 @@
 use coll_lex::TextBuf;
 use coll_lookups::{HashKeys, WordKeys};
 use coll_nodes::{MOST_ENTRIES, MOST_SECTIONS};
+use coll_source_lines::{Adjustment, Lost, Report, SourceFault, SourcePlace};
 use coll_source_names::{Found, Placed};
-use coll_sources::{Adjustment, Lost, Report, SourceFault, SourcePlace};
 use coll_syntax::OrderLine;
 use coll_texts::LoadCause;
 use indexmap::IndexSet;

@@ -9,8 +9,8 @@ use coll_lookups::HashKeys;
 use coll_meanings::{
     Ellipses, Meanings, OrderLines, put_before, put_range, without_symbol_weights,
 };
+use coll_source_lines::{Adjustment, Report, Said, SourceFault, SourceLine, SourcePlace};
 use coll_source_names::{Found, NameGuess};
-use coll_sources::{Adjustment, Report, Said, SourceFault, SourceLine, SourcePlace};
 use coll_syntax::{Id, OrderLine, SyntaxFault};
 use coll_texts::LoadCause;
 use std::alloc::Global;

@@ -9,7 +9,7 @@ ghost use Rattle.coll_texts.specs.Pieces.{piece_bytes};
 ghost use Rattle.coll_import.specs.ReportText.{name_told, adjusted_line, told_of, lost_bytes, dropped_line, report_text, fault_line};
 
 use coll_devices::{Sink, WriteStop};
-use coll_sources::{Adjustment, Loss, Lost, Report, SourceFault, Tally, all_adjustments};
+use coll_source_lines::{Adjustment, Loss, Lost, Report, SourceFault, Tally, all_adjustments};
 use coll_texts::{Piece, write_pieces};
 
 /// Writes what was changed: for each kind of change the line `FILE:LINE: adjusted NAME COUNT`, with its first place, and then for each

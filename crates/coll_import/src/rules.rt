@@ -3,7 +3,7 @@
 //! Sections of a source may have rules of their own, and a table has one rule for each level. Where the source is read with
 //! `DIACRIT_BACKWARD` defined, the rules with `backward` are meant, as far as a section has such.
 
-use coll_sources::{Adjustment, Report, Said, SourceLine, SourcePlace};
+use coll_source_lines::{Adjustment, Report, Said, SourceLine, SourcePlace};
 use coll_syntax::{Rule, Rules};
 use std::alloc::{AllocError, Global};
 

@@ -4,7 +4,7 @@
 //! latter has come. One that has no character on a side is left out.
 
 use coll_lex::{ListBuf, TextBuf};
-use coll_sources::{Adjustment, Lost, Report, SourceCause, SourceFault, SourcePlace};
+use coll_source_lines::{Adjustment, Lost, Report, SourceCause, SourceFault, SourcePlace};
 use coll_syntax::{Id, OrderLine, Weight};
 use std::alloc::{AllocError, Global};
 

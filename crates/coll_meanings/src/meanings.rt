@@ -4,8 +4,8 @@
 //! may go to another thread.
 
 use coll_lookups::HashKeys;
+use coll_source_lines::{Report, SourceFault, SourceLine, SourcePlace};
 use coll_source_names::{DeclaredNames, DeclaredRange, Found, NameGuess, SourceStatement};
-use coll_sources::{Report, SourceFault, SourceLine, SourcePlace};
 use coll_syntax::{Id, OrderLine};
 use coll_table::Table;
 use std::alloc::{AllocError, Global};

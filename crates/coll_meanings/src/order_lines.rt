@@ -4,7 +4,7 @@
 
 use crate::ellipses::{Ellipses, Run};
 use coll_lex::ListBuf;
-use coll_sources::{Report, SourceFault, SourcePlace};
+use coll_source_lines::{Report, SourceFault, SourcePlace};
 use coll_syntax::{Id, OrderLine, Weight};
 
 /// What takes the order lines of a source, one after another.

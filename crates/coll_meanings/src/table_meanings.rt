@@ -3,8 +3,8 @@
 //! The rules are those of `DeclaredNames`; here stands the table that is asked.
 
 use coll_lookups::HashKeys;
+use coll_source_lines::{Report, SourceFault, SourceLine, SourcePlace};
 use coll_source_names::{DeclaredNames, SourceStatement};
-use coll_sources::{Report, SourceFault, SourceLine, SourcePlace};
 use coll_syntax::{Id, OrderLine};
 use coll_table::Table;
 use std::alloc::{AllocError, Global};

@@ -5,8 +5,8 @@ use Rattle.coll_syntax.specs.declared.identifiers.Id.TheVariants.{Named}
 use Rattle.coll_syntax.specs.declared.statements.OrderLine.{OrderLine}
 use Rattle.coll_syntax.specs.declared.statements.Statement.{Statement}
 use Rattle.coll_syntax.specs.declared.statements.Statement.TheVariants as statement
-use Rattle.coll_sources.specs.declared.adjustments.Lost.{Lost}
-use Rattle.coll_sources.specs.declared.adjustments.Lost.TheVariants.{Id}
+use Rattle.coll_source_lines.specs.declared.adjustments.Lost.{Lost}
+use Rattle.coll_source_lines.specs.declared.adjustments.Lost.TheVariants.{Id}
 
 -- a name that is lost
 abbrev pub name_lost : List ℕ → Lost

@@ -21,7 +21,7 @@ use crate::table_names::{
 use coll_lex::{TextBuf, is_name};
 use coll_lookups::{HashKeys, NameKey, NameText, WordKeys};
 use coll_nodes::{DeclaredItem, MOST_DECLARATIONS};
-use coll_sources::{
+use coll_source_lines::{
     Adjustment, Declaration, Lost, NameRange, Report, Said, SourceFault, SourceLine, SourcePlace,
     name_at, spell_next,
 };

@@ -13,12 +13,12 @@ ghost use Rattle.std.specs.Bool.{OnTrue};
 ghost use Rattle.std.specs.Str.{bytes_eq};
 ghost use Rattle.indexmap.specs.IndexMap.{index_of_by};
 ghost use Rattle.coll_lookups.specs.NameKeys.{bytes_of};
-ghost use Rattle.coll_sources.specs.NameRanges.{range_name, HasNumber};
+ghost use Rattle.coll_source_lines.specs.NameRanges.{range_name, HasNumber};
 
 use crate::placed::Found;
 use coll_lex::TextBuf;
 use coll_lookups::{HashKeys, NameKey, NameText, WordKeys};
-use coll_sources::NameRange;
+use coll_source_lines::NameRange;
 use coll_syntax::Id;
 use indexmap::{Equivalent, IndexMap};
 use std::alloc::{AllocError, Global};

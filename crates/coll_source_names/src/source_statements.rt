@@ -1,11 +1,11 @@
 //! Statements that are made of the lines of a source.
 
 ghost use Rattle.std.specs.Prelude.{◌≡◌, ◌++◌, ◌∷◌, [], IfOk, OnErr, OnOk};
-ghost use Rattle.coll_sources.specs.declared.adjustments.Adjustment.TheVariants.{Dropped};
+ghost use Rattle.coll_source_lines.specs.declared.adjustments.Adjustment.TheVariants.{Dropped};
 ghost use Rattle.coll_source_names.specs.LeftOut.{lost_with, name_lost, reweighted, within_limits};
 
 use coll_lex::TextBuf;
-use coll_sources::{Adjustment, Lost, NameRange, Report, SourceFault, SourcePlace};
+use coll_source_lines::{Adjustment, Lost, NameRange, Report, SourceFault, SourcePlace};
 use coll_syntax::{Id, OrderLine, Statement};
 use std::alloc::AllocError;
 

@@ -1,8 +1,3 @@
 mod AnyLemmas
 mod DefinedNames
-mod DigitLemmas
-mod KindLemmas
-mod NumberLemmas
-mod RangeLemmas
 mod ReadTexts
-mod TallyLemmas

@@ -1,5 +1,1 @@
-pub mod SourceFaults
 pub mod Readers
-pub mod NameRanges
-pub mod Adjustments
-pub mod Reports

@@ -3,8 +3,8 @@ use Rattle.std.specs.Prelude.{◌≡◌, ℕ, Bool, List, [], Option, None, Some
 use Rattle.std.specs.List.{list_any}
 use Rattle.std.specs.Str.{bytes_eq}
 use Rattle.coll_lex.specs.Names.{AreTokens}
-use Rattle.coll_sources.specs.Reports.{ReportValue}
-use Rattle.coll_sources.specs.declared.source_lines.SourceLine.{SourceLine}
+use Rattle.coll_source_lines.specs.Reports.{ReportValue}
+use Rattle.coll_source_lines.specs.declared.source_lines.SourceLine.{SourceLine}
 use Rattle.coll_sources.specs.declared.readers.Next.{Next}
 use Rattle.coll_sources.specs.declared.readers.Next.TheVariants.{Ended, Nothing, Whole}
 

@@ -3,7 +3,7 @@
 //! `ifdef NAME` and `ifndef NAME` begin such lines, `else` turns them round, and `endif` ends them. They may stand in one another.
 //! `define NAME` defines one.
 
-use crate::{SourceCause, SourceFault, SourcePlace};
+use coll_source_lines::{SourceCause, SourceFault, SourcePlace};
 use std::alloc::{AllocError, Global};
 
 /// The word that begins a line on what counts.

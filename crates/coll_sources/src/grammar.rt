@@ -6,10 +6,9 @@
 ghost use Rattle.coll_lex.specs.Names.{AreTokens};
 
 use crate::operands::{Unread, is_ellipsis};
-use crate::ranges::{Digits, name_range};
 use crate::weights::weights;
-use crate::{Declaration, Said, Tailoring};
 use coll_lex::{Line, Piece, TextBuf, Token};
+use coll_source_lines::{Declaration, Digits, Said, Tailoring, name_range};
 use coll_syntax::{
     DeltaLine, OrderLine, TableLine, characters, copied_name, id_of, is_word, parse_delta_line,
     parse_table_line,

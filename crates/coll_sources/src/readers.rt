@@ -25,12 +25,12 @@ use crate::operands::Unread;
 use crate::plain_orders::plain_order;
 use crate::subjects::subject_of;
 use crate::texts::{line_at, text_of};
-use crate::{
-    Adjustment, Report, Said, SourceCause, SourceFault, SourceLine, SourcePlace, Tailoring,
-};
 use coll_devices::{LineReader, ReadStop, Source};
 use coll_lex::{LexFault, Lexer, Line, MOST_LINES, Piece, TextBuf, Token};
 use coll_lookups::HashKeys;
+use coll_source_lines::{
+    Adjustment, Report, Said, SourceCause, SourceFault, SourceLine, SourcePlace, Tailoring,
+};
 use coll_syntax::{OrderLine, SyntaxFault, characters, is_word};
 use coll_texts::{LoadCause, LoadFault};
 use indexmap::IndexSet;
@@ -189,7 +189,7 @@ impl SourceReader {
     ghost use Rattle.std.specs.Str.{bytes_eq};
     ghost use Rattle.coll_devices.specs.LineReading.{no_line};
     ghost use Rattle.coll_sources.specs.Readers.{ReadsAll, is_defined};
-    ghost use Rattle.coll_sources.specs.declared.source_faults.SourceCause.TheVariants.{Load};
+    ghost use Rattle.coll_source_lines.specs.declared.source_faults.SourceCause.TheVariants.{Load};
     ghost use Rattle.coll_texts.specs.declared.load_faults.LoadCause.TheVariants.{ReadFault};
 
     /// A reader of such a source, which wants the text of this name, where these names are defined.

@@ -1,7 +1,7 @@
 //! What a line is about that says nothing, and is left out.
 
-use crate::Lost;
 use coll_lex::{TextBuf, Token};
+use coll_source_lines::Lost;
 use coll_syntax::{Id, copied_name, id_of};
 use std::alloc::{AllocError, Global};
 

@@ -15,8 +15,8 @@ ghost use Rattle.coll_tailorings.specs.Rewriting.{Answers, IsPut, LeadsOn, rewri
 
 use coll_delta_texts::is_writable;
 use coll_lex::{LexFault, MOST_LINES};
+use coll_source_lines::{Report, SourceFault, SourcePlace};
 use coll_source_names::{SourceStatement, lose_statement};
-use coll_sources::{Report, SourceFault, SourcePlace};
 use coll_syntax::Statement;
 use coll_table::{Refusal, Table};
 use coll_texts::LoadCause;

@@ -10,8 +10,8 @@ use crate::steps::{Step, StepAt};
 use coll_lex::ListBuf;
 use coll_lookups::HashKeys;
 use coll_meanings::{SourceIds, TableMeanings, TailoredLookUp, without_weights_of_symbol};
+use coll_source_lines::{Adjustment, Lost, Report, SourceFault, SourcePlace};
 use coll_source_names::{SourceStatement, proper_line};
-use coll_sources::{Adjustment, Lost, Report, SourceFault, SourcePlace};
 use coll_syntax::{Id, MOST_BLOCK_LINES, OrderLine, Statement, Weight};
 use std::alloc::{AllocError, Global};
 

@@ -1,7 +1,7 @@
 //! Weights that name what isn't placed yet: they are given at the end.
 
 use coll_lookups::{HashKeys, WordKeys};
-use coll_sources::SourcePlace;
+use coll_source_lines::SourcePlace;
 use coll_syntax::{Id, OrderLine};
 use indexmap::IndexMap;
 use std::alloc::{AllocError, Global};

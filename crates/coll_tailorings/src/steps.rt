@@ -7,7 +7,7 @@
 use coll_lex::{LexFault, MOST_LINES, TextBuf};
 use coll_lookups::{HashKeys, WordKeys};
 use coll_meanings::{Ellipses, OrderLines, SourceIds, TableMeanings, put_line, put_range};
-use coll_sources::{
+use coll_source_lines::{
     Adjustment, Lost, Report, Said, SourceFault, SourceLine, SourcePlace, Tailoring,
 };
 use coll_syntax::{Id, OrderLine, SyntaxFault};

@@ -7,7 +7,7 @@ use crate::meanings::order_line;
 use crate::meanings::told::tell_losses;
 use crate::tables::examples::id;
 use coll_import::import_table;
-use coll_sources::{Report, SourceLine};
+use coll_source_lines::{Report, SourceLine};
 use coll_syntax::Id;
 use coll_table::HashKeys;
 use std::alloc::Global;

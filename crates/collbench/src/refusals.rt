@@ -19,7 +19,7 @@ use coll_lint::keep_text;
 use coll_refused_lines::{
     RefusedLine, refused_alone, refused_at, refused_in_delta, refused_in_table, write_refused,
 };
-use coll_sources::SourceFault;
+use coll_source_lines::SourceFault;
 use coll_table::{HashKeys, LoadCause, Table};
 use std::alloc::Global;
 use std::fs;

@@ -9,8 +9,8 @@ use coll_meanings::{
     LastNames, Meanings, PlacedLookUp, SourceIds, TableMeanings, TailoredLookUp, WeightLookUp,
     without_symbol_weights, without_weights_of_symbol,
 };
+use coll_source_lines::{Report, SourceFault, SourceLine, SourcePlace, name_at};
 use coll_source_names::{DeclaredRange, NameGuess, Placed, SourceStatement};
-use coll_sources::{Report, SourceFault, SourceLine, SourcePlace, name_at};
 use coll_syntax::{Id, OrderLine, Statement};
 use coll_table::{HashKeys, Table};
 use std::alloc::{AllocError, Global};

@@ -5,7 +5,8 @@
 
 use crate::random::Random;
 use coll_lex::Counted;
-use coll_sources::{SourceKind, SourceLine, SourceReader};
+use coll_source_lines::SourceLine;
+use coll_sources::{SourceKind, SourceReader};
 use coll_table::HashKeys;
 use std::alloc::Global;
 use std::process::Abort;

@@ -10,11 +10,11 @@
 use coll_lex::{TextBuf, is_name};
 use coll_lookups::HashKeys;
 use coll_nodes::{DeclaredItem, MOST_DECLARATIONS};
-use coll_source_names::SourceStatement;
-use coll_sources::{
+use coll_source_lines::{
     Adjustment, Declaration, Lost, NameRange, Report, Said, SourceFault, SourceLine, SourcePlace,
     name_at,
 };
+use coll_source_names::SourceStatement;
 use coll_syntax::{Id, MOST_ELEMENT_CHARS, OrderLine, Statement};
 use coll_table::Table;
 use coll_texts::LoadCause;

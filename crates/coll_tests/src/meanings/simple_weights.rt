@@ -3,7 +3,7 @@
 use crate::meanings::simple_meanings::Meanings;
 use coll_lex::ListBuf;
 use coll_lookups::IdSet;
-use coll_sources::{Adjustment, Lost, Report, SourceFault, SourcePlace};
+use coll_source_lines::{Adjustment, Lost, Report, SourceFault, SourcePlace};
 use coll_syntax::{Id, OrderLine, Weight};
 use std::alloc::Global;
 

@@ -2,10 +2,10 @@
 
 use crate::meanings::forms::Form;
 use coll_lex::{Counted, ListBuf};
-use coll_source_names::SourceStatement;
-use coll_sources::{
+use coll_source_lines::{
     Loss, Lost, Report, Said, SourceFault, SourceLine, SourcePlace, all_adjustments,
 };
+use coll_source_names::SourceStatement;
 use coll_syntax::{Id, OrderLine, Weight};
 use coll_texts::{Piece, write_pieces};
 use std::alloc::Global;

@@ -1,7 +1,7 @@
 -- The kinds of change that were made, and then what was lost.
 use Rattle.std.proofs.Common.{map, string_bytes, refl, rules}
 use Rattle.std.specs.List.{flat_map}
-use Rattle.coll_sources.specs.Adjustments.{all_kinds}
+use Rattle.coll_source_lines.specs.Adjustments.{all_kinds}
 use Rattle.coll_import.specs.ReportText.{told_of, dropped_line, report_text}
 use Rattle.coll_texts.proofs.PrintedParts.{stops_first, writes_rest}
 use Rattle.coll_import.proofs.reports.write_report.Goals as goal

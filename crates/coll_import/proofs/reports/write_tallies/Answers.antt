@@ -1,7 +1,7 @@
 -- Each kind of change is one part.
 use Rattle.std.proofs.Common.{◌+◌, map, drop, get_or, string_bytes, ◌∙◌, rules}
 use Rattle.std.proofs.lemmas.List.{drop_more}
-use Rattle.coll_sources.specs.declared.adjustments.Adjustment.TheVariants.{CopyInlined}
+use Rattle.coll_source_lines.specs.declared.adjustments.Adjustment.TheVariants.{CopyInlined}
 use Rattle.coll_import.specs.ReportText.{told_of}
 use Rattle.coll_texts.proofs.PrintedParts.{written_prefix, written_more}
 use Rattle.coll_import.proofs.reports.write_tallies.Goals as goal

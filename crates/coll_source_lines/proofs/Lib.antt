@@ -1,0 +1,5 @@
+mod DigitLemmas
+mod KindLemmas
+mod NumberLemmas
+mod RangeLemmas
+mod TallyLemmas

@@ -1,0 +1,4 @@
+pub mod SourceFaults
+pub mod NameRanges
+pub mod Adjustments
+pub mod Reports
