@@ -31,6 +31,7 @@ use Rattle.coll_key.proofs.RowLemmas.{list_alike}
 use Rattle.coll_key.specs.RowKeys.{AreRowsOf}
 use Rattle.coll_key.specs.LevelList.{items, items_of, level_list, listed, position_of}
 use Rattle.coll_key.specs.TextOrder.{level_lists, list_order, order_of}
+use Rattle.coll_letters.specs.AlikeLevels.{AreAlike}
 use Rattle.coll_letters.specs.ElementMarks.{AreAlone, AreMarks, GoesOnOther, GoesOnOtherAt, IsAloneAt, IsApart, IsApartAt, IsSameAt, StandsAlone}
 use Rattle.coll_letters.proofs.LevelNumberLemmas.{gaps_tell_nothing}
 use Rattle.coll_letters.proofs.MarkLemmas.{stands_apart}
@@ -434,6 +435,37 @@ module _ (table : Collation) (level : ℕ) where
         single_at_end position gaps n (flat_map items_of (text_numbers table level (chars first.rest.now))) wanted
         ∙ ap (λ (l : List ℕ). order_at_end wanted (listed position gaps (items_of l ++ flat_map items_of (text_numbers table level (chars first.rest.now))))) (sym single)
         ∙ ap (order_at_end wanted) (sym (begin_first text first numbers is same position gaps))
+
+-- Levels that are alike.
+
+-- the first text's character is passed, where so many of the first levels ignore it
+pub first_passed : (table : Collation) (weights : WeightsValue) (text other : List ℕ) (first : FirstLetter) (count : ℕ) → IsFirstLetter table weights text first → count ≤ length table.rules
+    → ((level : ℕ) → level < count → row_numbers weights level first.row ≡ []) → (level : ℕ) → level < count → OrdersAlikeAt table level false text other (chars first.rest.now) other
+first_passed table weights text other first count is few none level within = λ gaps. (
+  gaps,
+  ap (λ (l : List ℕ). list_order l (list_behind table level false gaps other)) (ignored_behind table level weights (omega (arith, within, few)) false text first [] first.rest.now is
+      (sym (none level within)) (record { none = refl; plain = refl; rest_is = refl }) gaps),
+)
+
+-- or the second one's
+pub second_passed : (table : Collation) (weights : WeightsValue) (text other : List ℕ) (second : FirstLetter) (count : ℕ) → IsFirstLetter table weights other second → count ≤ length table.rules
+    → ((level : ℕ) → level < count → row_numbers weights level second.row ≡ []) → (level : ℕ) → level < count → OrdersAlikeAt table level false text other text (chars second.rest.now)
+second_passed table weights text other second count is few none level within = λ gaps. (
+  gaps,
+  ap (list_order (list_behind table level false gaps text)) (ignored_behind table level weights (omega (arith, within, few)) false other second [] second.rest.now is
+      (sym (none level within)) (record { none = refl; plain = refl; rest_is = refl }) gaps),
+)
+
+-- where both have ended nothing tells them apart
+pub alike_ended : (table : Collation) (count : ℕ) (text other left right : List ℕ) → left ≡ [] → right ≡ []
+    → ((level : ℕ) → level < count → OrdersAlikeAt table level false text other (chars left) (chars right)) → AreAlike table count text other
+alike_ended table count text other left right none other_none alike = λ level within.
+    let one = alike level within 0 in
+    sym (one.1 ∙ ap (λ (l : List ℕ). list_order l (list_behind table level false one.0 (chars right))) (ended level left none one.0) ∙ ap (list_order []) (ended level right other_none one.0))
+  where
+    ended : (level : ℕ) (bytes : List ℕ) → bytes ≡ [] → (gaps : ℕ) → list_behind table level false gaps (chars bytes) ≡ []
+    ended level bytes none gaps =
+        ap (λ (l : List ℕ). list_behind table level false gaps (chars l)) none ∙ ap (list_behind table level false gaps) chars-nil ∙ none_behind table level false gaps
 
 -- Rows.
 

@@ -1,3 +1,4 @@
+pub mod AlikeLevels
 pub mod BackNumbers
 pub mod ElementMarks
 pub mod FirstNumbers

@@ -219,12 +219,12 @@ impl FirstNumbers {
         requires front { (k : ℕ) → k < front → IsSameAt marks.now text.now other.now k }
         ensures { IfSome result (OrdersSo (collation table.now) 0 (chars text.now) (chars other.now)) }
     {
-        let (mut left, mut right) = behind_front(table, 0, marks, text, other, front);
+        let (mut left, mut right) = behind_front(table, marks, text, other, front);
         'letters: loop {
             match self.step(table, places, marks, left, right) {
                 LetterStep::Decided(order) => return Some(order),
                 LetterStep::Later(later, others) => {
-                    let (next, next_other) = behind_same(table, 0, marks, later, others);
+                    let (next, next_other) = behind_same(table, marks, later, others);
                     left = next;
                     right = next_other;
                 }

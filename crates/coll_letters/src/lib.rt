@@ -6,9 +6,10 @@
 //! - `element_marks`: which characters stand first in the string of an element, and which second (`ElementMarks`);
 //! - `letter_weights`: what characters weigh, and two texts compared by it (`LetterWeights`), mostly by the single numbers that
 //!   characters have at the first level (`first_numbers`, `FirstNumbers`, `FirstOrders`), and else by all that they have at a level
-//!   (`level_numbers`, `LevelNumbers`; from the back `back_numbers`, `BackNumbers`).
+//!   (`level_numbers`, `LevelNumbers`; from the back `back_numbers`, `BackNumbers`), or by what is ignored (`alike_levels`, `AlikeLevels`).
 #![tactic(auto)]
 
+mod alike_levels;
 mod back_numbers;
 mod element_marks;
 mod first_numbers;

@@ -6,9 +6,8 @@ use Rattle.coll_letters.proofs.LetterLemmas.{behind_bytes, same_behind}
 use Rattle.coll_letters.proofs.letter_weights.behind_front.Goals as goal
 
 pub returns-clause-same : goal.returns-clause-same
-returns-clause-same c =
+returns-clause-same c = λ level.
     let table = collation c.args._table.now in
-    let level = c.args._level in
     let text = chars c.args.text.now in
     let other = chars c.args.other.now in
     subst (λ (l : List ℕ). OrdersAlike table level text other (chars l) (chars c.in-Some-split_at_checked.others.now)) (sym c.in-Some.ensures.back)
@@ -26,10 +25,10 @@ returns-clause-shorter_other c =
     (behind_bytes c.args._marks.now c.args.front c.args.other.now c.utf8.other (λ k within. (c.requires.front k within).second)).shorter
 
 pub returns-then-front-eq0-clause-same : goal.returns-then-front-eq0-clause-same
-returns-then-front-eq0-clause-same c = λ position gaps. (gaps, refl)
+returns-then-front-eq0-clause-same c = λ level position gaps. (gaps, refl)
 
 pub returns-in_default-clause-same : goal.returns-in_default-clause-same
-returns-in_default-clause-same c = λ position gaps. (gaps, refl)
+returns-in_default-clause-same c = λ level position gaps. (gaps, refl)
 
 pub returns-in_default-split_at_checked-clause-same : goal.returns-in_default-split_at_checked-clause-same
-returns-in_default-split_at_checked-clause-same c = λ position gaps. (gaps, refl)
+returns-in_default-split_at_checked-clause-same c = λ level position gaps. (gaps, refl)

@@ -6,6 +6,13 @@ use Rattle.coll_letters.proofs.LetterLemmas.{alike_at, level_orders_behind, leve
 use Rattle.coll_letters.proofs.letter_weights.LetterWeights.forward_order.Goals as goal
 use Rattle.coll_letters.proofs.letter_weights.LetterWeights.forward_order.Goals.{in-Later, in-PassedFirst, in-PassedSecond}
 
+pub letters-init : goal.letters-init
+letters-init c = record {
+  left = search rules;
+  right = search rules;
+  same = c.behind_front.ensures.same c.args.level c.args.position;
+}
+
 pub letters-preserved : goal.letters-preserved
 letters-preserved c =
     let table = collation c.args.table.now in
@@ -21,11 +28,11 @@ letters-preserved c =
       same = alike_at table level position (chars c.args.text.now) (chars c.args.other.now) left right last last_other c.letters.invariant.same
           (elim c.match-step.branch [
             | in-Later w ↦ alike_at table level position left right (chars w.in-Later.later.now) (chars w.in-Later.others.now) last last_other (w.in-Later.ensures.same position)
-                ((rw w.t-28-is at c.behind_same.ensures.same) position)
+                ((rw w.t-28-is at c.behind_same.ensures.same) level position)
             | in-PassedFirst w ↦ alike_at table level position left right (chars w.in-PassedFirst.later.now) right last last_other w.in-PassedFirst.ensures.same
-                ((rw w.t-28-is at c.behind_same.ensures.same) position)
+                ((rw w.t-28-is at c.behind_same.ensures.same) level position)
             | in-PassedSecond w ↦ alike_at table level position left right left (chars w.in-PassedSecond.others.now) last last_other w.in-PassedSecond.ensures.same
-                ((rw w.t-28-is at c.behind_same.ensures.same) position)
+                ((rw w.t-28-is at c.behind_same.ensures.same) level position)
           ]);
     }
 
