@@ -5,13 +5,11 @@
 
 ghost use Rattle.std.specs.Prelude.{◌≡◌, ◌<◌, length, IfErr};
 
-use crate::files::{Input, at_no_line, is_output_a_file, open_all};
-use crate::metered::MeteredSink;
-use crate::progress::{ProgressLine, Step};
 use crate::{read_at, standard_output};
 use coll_bench::{Fault, RunFault};
 use coll_differences::{Differences, difference, write_difference};
 use coll_lex::{LexFault, Sink, WriteStop};
+use coll_system::{Input, MeteredSink, ProgressLine, Step, at_no_line, is_output_a_file, open_all};
 use coll_table::{HashKeys, Table};
 use std::process::ExitCode;
 

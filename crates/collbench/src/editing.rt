@@ -5,9 +5,6 @@
 
 ghost use Rattle.std.specs.Prelude.{◌≡◌, ◌<◌, length, IfErr};
 
-use crate::files::{Input, at_no_line, open_all};
-use crate::progress::ProgressLine;
-use crate::reasons::{ReasonedOutput, reason_of, reasoned_output};
 use crate::refusals::tell_of_lint;
 use crate::standard_input::ServesLines;
 use crate::{read_at, tell_fault, tell_fault_line};
@@ -15,6 +12,9 @@ use coll_bench::{Fault, RunFault};
 use coll_edit::{Editor, OpensFiles, Watched, edit_lines};
 use coll_edit_messages::FileReason;
 use coll_lex::{Counted, LexFault};
+use coll_system::{
+    Input, ProgressLine, ReasonedOutput, at_no_line, open_all, reason_of, reasoned_output,
+};
 use coll_table::HashKeys;
 use std::fs::File;
 use std::io::IsTerminal;

@@ -2,11 +2,11 @@
 
 ghost use Rattle.std.specs.Prelude.{◌≡◌, ◌<◌, length, IfErr};
 
-use crate::files::at_no_line;
 use crate::{read_table, standard_output};
 use coll_bench::{Fault, RunFault};
 use coll_explanations::explain;
 use coll_lex::{Sink, TextBuf, WriteStop};
+use coll_system::at_no_line;
 use coll_table::{HashKeys, Table};
 
 /// Tells why two texts compare as they do by the table in the first of these files.

@@ -7,10 +7,7 @@ ghost use Rattle.std.specs.Prelude.{◌≡◌, ◌<◌, length};
 ghost use Rattle.coll_devices.specs.Devices.{CountsErr, Sends};
 ghost use Rattle.collbench.specs.MadeTexts.{made_text};
 
-use crate::files::{file_size, is_output_a_file, line_for};
 use crate::laws::written_deltas_are_accepted;
-use crate::metered::{MeteredSink, MeteredSource};
-use crate::progress::{ProgressLine, Step};
 use crate::refusals::{tell_below_source, tell_sentence};
 use crate::{Output, read_table, tell_fault, tell_no_memory};
 use coll_bench::{Fault, exit_status};
@@ -19,6 +16,9 @@ use coll_import::{import_table, write_report, write_source_fault};
 use coll_lex::{Counted, Sink, TextBuf, WriteStop};
 use coll_source_lines::{Report, SourceFault, SourceLine, SourcePlace};
 use coll_sources::{SourceKind, SourceReader};
+use coll_system::{
+    MeteredSink, MeteredSource, ProgressLine, Step, file_size, is_output_a_file, line_for,
+};
 use coll_table::{HashKeys, LoadCause, Table};
 use coll_tailorings::{Tailored, import_delta};
 use std::alloc::{AllocError, Global};

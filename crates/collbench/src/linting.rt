@@ -5,13 +5,13 @@
 
 ghost use Rattle.std.specs.Prelude.{◌≡◌, ◌<◌, length};
 
-use crate::files::{at_no_line, file_size, is_output_a_file, line_for};
-use crate::metered::{MeteredSink, MeteredSource};
-use crate::progress::{ProgressLine, Step};
-use crate::reasons::{Reasoned, ReasonedOutput, reasoned_output, told_reason};
 use coll_bench::{Fault, RunFault, exit_status};
 use coll_lex::{ReadStop, Sink, WriteStop};
 use coll_lint::{Progress, keep_text, lint_watched};
+use coll_system::{
+    MeteredSink, MeteredSource, ProgressLine, Reasoned, ReasonedOutput, Step, at_no_line,
+    file_size, is_output_a_file, line_for, reasoned_output, told_reason,
+};
 use coll_table::HashKeys;
 use std::fs::File;
 use std::io::ErrorKind;
@@ -155,7 +155,8 @@ fn lint_to(
     names: &[String],
     output: &mut MeteredSink<'_, ReasonedOutput>,
 ) -> Result<bool, RunFault> {
-    let told = lint_watched(rt.alloc(), keys, table, delta, names, output, line);
+    let judging = Judging { line };
+    let told = lint_watched(rt.alloc(), keys, table, delta, names, output, &judging);
     match output.flush() {
         Ok(()) => told,
         Err(_) => Err(at_no_line(0, Fault::Write(WriteStop::WriteFault))),
@@ -173,12 +174,18 @@ fn unexplained(told: Result<bool, RunFault>) -> Linted {
     }
 }
 
-impl Progress for ProgressLine<'_> {
+// The line that is told how many bytes of the table were judged.
+#[derive(Clone, Copy)]
+struct Judging<'a> {
+    line: &'a ProgressLine<'a>,
+}
+
+impl Progress for Judging<'_> {
     fn judged(&self, bytes: usize, all: usize) {
-        self.tell(Step::Judging(bytes as u64, all as u64));
+        self.line.tell(Step::Judging(bytes as u64, all as u64));
     }
 
     fn surveys(&self) {
-        self.begin(Step::Surveying);
+        self.line.begin(Step::Surveying);
     }
 }

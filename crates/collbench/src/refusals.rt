@@ -1,15 +1,13 @@
 //! What is told of a fault that ended a run, below its line, where standard error is a terminal.
 //!
 //! The line at fault is shown, with a mark, and what to do. So the files that a fault is about are read once more: regular files alone,
-//! since a pipe or a device gives its bytes once, and never standard input. Whatever fails here is left out: the line of the fault and
-//! the exit status stay what they are without a terminal.
+//! since a pipe or a device gives its bytes once, and never standard input. Why a file can't be read the system is asked anew
+//! (`reason_for`). Whatever fails here is left out: the line of the fault and the exit status stay what they are without a terminal.
 //!
 //! Of what a survey doesn't look for more is told here, as an edit tells it: a target or a section that is near, `%` where it begins no
 //! comment; of a delta file without its category, that a list of words is none; of a block that isn't ended, where it begins; and of a
 //! source that one import refuses, which other one takes it.
 
-use crate::random_keys::random_keys;
-use crate::reasons::told_reason;
 use crate::standard_input::STANDARD_INPUT;
 use coll_advice::meant_name;
 use coll_bench::{Fault, RunFault, read_inputs};
@@ -20,6 +18,7 @@ use coll_refused_lines::{
     RefusedLine, refused_alone, refused_at, refused_in_delta, refused_in_table, write_refused,
 };
 use coll_source_lines::SourceFault;
+use coll_system::{random_keys, told_reason};
 use coll_table::{HashKeys, LoadCause, Table};
 use std::alloc::Global;
 use std::fs;

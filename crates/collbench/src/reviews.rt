@@ -4,13 +4,11 @@
 
 ghost use Rattle.std.specs.Prelude.{◌<◌, ◌≤◌, length, IfErr};
 
-use crate::files::{Input, at_no_line, is_output_a_file, open_all};
-use crate::metered::MeteredSink;
-use crate::progress::{ProgressLine, Step};
 use crate::{Output, read_at, standard_output};
 use coll_bench::{Fault, RunFault};
 use coll_lex::{ReadStop, Sink, WriteStop};
 use coll_reviews::{Progress, review_words};
+use coll_system::{Input, MeteredSink, ProgressLine, Step, at_no_line, is_output_a_file, open_all};
 use coll_table::{HashKeys, Table};
 
 /// Tells what the statements of a delta file do to words: the first of these files has the table, the second the statements, the

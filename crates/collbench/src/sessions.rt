@@ -1,10 +1,10 @@
 //! A session is served over standard input and standard output.
 
-use crate::progress::ProgressLine;
 use crate::standard_input::ServesLines;
 use crate::{read_table, standard_output};
 use coll_bench::{RunFault, run_session};
 use coll_lex::Counted;
+use coll_system::ProgressLine;
 use coll_table::{HashKeys, Table};
 
 /// A session over the table in the first of some files, rewritten by the others.

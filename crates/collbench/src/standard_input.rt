@@ -5,9 +5,9 @@
 
 ghost use Rattle.std.specs.Prelude.{◌≡◌, ◌<◌, length, IfErr};
 
-use crate::progress::ProgressLine;
 use crate::{tell_fault, tell_no_memory};
 use coll_bench::RunFault;
+use coll_system::ProgressLine;
 use coll_table::HashKeys;
 use std::process::ExitCode;
 

@@ -2,13 +2,14 @@
 
 ghost use Rattle.std.specs.Prelude.{◌≡◌, ◌<◌, length, IfErr};
 
-use crate::files::{at_no_line, is_output_a_file, line_for, standard_input_size};
-use crate::metered::{MeteredSink, MeteredSource};
-use crate::progress::{ProgressLine, Step};
 use crate::standard_input::ServesLines;
 use crate::{read_table, standard_output};
 use coll_bench::{Fault, RunFault};
 use coll_lex::{Counted, Sink, WriteStop};
+use coll_system::{
+    MeteredSink, MeteredSource, ProgressLine, Step, at_no_line, is_output_a_file, line_for,
+    standard_input_size,
+};
 use coll_table::{HashKeys, Table};
 use coll_words::sort_lines;
 use std::io::Stdin;

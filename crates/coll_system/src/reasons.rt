@@ -1,7 +1,7 @@
 //! Why the system refused to open a file, to read one, or to write.
 //!
-//! A fault of a device has a number and no more; here the reason that the system gives is kept beside it. It is told in words, or,
-//! where nobody reads any longer what is written, ends what serves a person quietly.
+//! A fault of a device has a number and no more; here the reason that the system gives is kept beside it. It is told in words
+//! (`FileReason` of coll_edit_messages), or, where nobody reads any longer what is written, ends what serves a person quietly.
 
 ghost use Rattle.std.specs.Prelude.{◌≡◌, IfErr};
 ghost use Rattle.coll_devices.specs.Counted.{device_of, errors_of, flushed_of};
@@ -15,14 +15,17 @@ use std::io::{BufWriter, ErrorKind, Read, Stdout, Write};
 
 /// A device with the kind of the last error that it answered.
 #[derive(Drop)]
-pub(crate) struct Reasoned<T> {
+pub struct Reasoned<T> {
     device: Counted<T>,
     reason: Option<ErrorKind>,
 }
 
 impl<T> Reasoned<T> {
     /// Wraps a device, which has answered no error yet.
-    pub fn new(device: T) -> Reasoned<T> {
+    pub fn new(device: T) -> Reasoned<T>
+        ensures device { device_of result.device ≡ device }
+        ensures errors { errors_of result.device ≡ 0 }
+    {
         Reasoned {
             device: Counted::new(device),
             reason: None,
@@ -30,7 +33,9 @@ impl<T> Reasoned<T> {
     }
 
     /// The kind of the last error, if there was one.
-    pub fn reason(&self) -> Option<ErrorKind> {
+    pub fn reason(&self) -> Option<ErrorKind>
+        ensures { result ≡ self.now.reason }
+    {
         self.reason
     }
 
@@ -91,10 +96,10 @@ impl<T: Write> Sink for Reasoned<T> {
 }
 
 /// Standard output, with a buffer, which keeps why it refuses what is written.
-pub(crate) type ReasonedOutput = Reasoned<BufWriter<Stdout>>;
+pub type ReasonedOutput = Reasoned<BufWriter<Stdout>>;
 
 /// Standard output, which has refused nothing yet.
-pub(crate) fn reasoned_output(rt: &HostRuntime) -> Result<ReasonedOutput, RunFault>
+pub fn reasoned_output(rt: &HostRuntime) -> Result<ReasonedOutput, RunFault>
     ensures { IfErr result (λ fault. fault.input ≡ 0) }
 {
     match BufWriter::new(rt.alloc(), rt.stdout()) {
@@ -104,7 +109,7 @@ pub(crate) fn reasoned_output(rt: &HostRuntime) -> Result<ReasonedOutput, RunFau
 }
 
 /// The reason that a kind of error tells.
-pub(crate) fn reason_of(kind: ErrorKind) -> FileReason {
+pub fn reason_of(kind: ErrorKind) -> FileReason {
     match kind {
         ErrorKind::NotFound => FileReason::Missing,
         ErrorKind::PermissionDenied => FileReason::Denied,
@@ -118,7 +123,7 @@ pub(crate) fn reason_of(kind: ErrorKind) -> FileReason {
 }
 
 /// A reason of the system in words, where it gave one that is known.
-pub(crate) fn told_reason(reason: Option<ErrorKind>) -> Option<&'static str> {
+pub fn told_reason(reason: Option<ErrorKind>) -> Option<&'static str> {
     match reason_of(reason?) {
         FileReason::Other => None,
         reason => Some(reason.words()),

@@ -1,5 +1,5 @@
 use Rattle.std.proofs.Common.{◌≡◌, length, vec_len, vec_capacity}
-use Rattle.collbench.proofs.files.open_all.Given as goal
+use Rattle.coll_system.proofs.files.open_all.Given as goal
 
 -- a file is opened for each name met so far, and there is room for the others
 abbrev pub invariant-loop-name : goal.invariant-loop-name

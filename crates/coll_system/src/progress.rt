@@ -25,7 +25,7 @@ const TENTH: u64 = 100_000;
 
 /// What a run is at.
 #[derive(Clone, Copy)]
-pub(crate) enum Step {
+pub enum Step {
     /// Bytes are read: so many, of so many where that is known.
     Reading(u64, Option<u64>),
     /// The bytes of a table are judged: so many, of so many.
@@ -77,7 +77,7 @@ impl Display for Size {
 }
 
 /// The line of a run.
-pub(crate) struct ProgressLine<'a> {
+pub struct ProgressLine<'a> {
     rt: &'a HostRuntime,
     // When the run began; nothing where no line is shown, or none any longer.
     begun: Cell<Option<Instant>>,

@@ -14,7 +14,7 @@ const BYTES_BETWEEN: u64 = 65_536;
 
 /// A reader whose bytes are counted, and the line that is told of them, if one is.
 #[derive(Drop)]
-pub(crate) struct MeteredSource<'a, S> {
+pub struct MeteredSource<'a, S> {
     source: S,
     line: Option<&'a ProgressLine<'a>>,
     // How many bytes there are, where that is known.
@@ -31,7 +31,9 @@ impl<'a, S> MeteredSource<'a, S> {
         source: S,
         line: Option<&'a ProgressLine<'a>>,
         size: Option<u64>,
-    ) -> MeteredSource<'a, S> {
+    ) -> MeteredSource<'a, S>
+        ensures { result.source ≡ source }
+    {
         MeteredSource {
             source,
             line,
@@ -42,17 +44,23 @@ impl<'a, S> MeteredSource<'a, S> {
     }
 
     /// Has a step begin once all is read.
-    pub fn lead_to(&mut self, step: Step) {
+    pub fn lead_to(&mut self, step: Step)
+        ensures { self.new.source ≡ self.old.source }
+    {
         self.next = Some(step);
     }
 
     /// Has nothing more told of the bytes.
-    pub fn hush(&mut self) {
+    pub fn hush(&mut self)
+        ensures { self.new.source ≡ self.old.source }
+    {
         self.line = None;
     }
 
     /// The reader.
-    pub fn source(&self) -> &S {
+    pub fn source(&self) -> &S
+        ensures { result.now ≡ self.now.source }
+    {
         &self.source
     }
 
@@ -92,7 +100,7 @@ impl<S: Source> Source for MeteredSource<'_, S> {
 
 /// A writer whose bytes are counted, and the line that is told of them, or hidden before the first one.
 #[derive(Drop)]
-pub(crate) struct MeteredSink<'a, W> {
+pub struct MeteredSink<'a, W> {
     sink: W,
     line: &'a ProgressLine<'a>,
     // Whether the line stays, and is told of them.
@@ -105,7 +113,9 @@ pub(crate) struct MeteredSink<'a, W> {
 
 impl<'a, W> MeteredSink<'a, W> {
     /// A writer that has taken no byte yet.
-    pub fn new(sink: W, line: &'a ProgressLine<'a>, told: bool) -> MeteredSink<'a, W> {
+    pub fn new(sink: W, line: &'a ProgressLine<'a>, told: bool) -> MeteredSink<'a, W>
+        ensures { result.sink ≡ sink }
+    {
         MeteredSink {
             sink,
             line,
@@ -116,7 +126,9 @@ impl<'a, W> MeteredSink<'a, W> {
     }
 
     /// The writer.
-    pub fn sink(&self) -> &W {
+    pub fn sink(&self) -> &W
+        ensures { result.now ≡ self.now.sink }
+    {
         &self.sink
     }
 
