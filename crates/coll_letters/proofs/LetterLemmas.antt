@@ -45,7 +45,7 @@ use Rattle.coll_letters.specs.declared.letter_weights.LetterStep.TheVariants.{De
 -- One level after another.
 
 -- the items of elements are those of their numbers
-items_by_numbers : {P : Type 0} (f : P → List ℕ) (ps : List P) → items f ps ≡ flat_map items_of (map f ps)
+pub items_by_numbers : {P : Type 0} (f : P → List ℕ) (ps : List P) → items f ps ≡ flat_map items_of (map f ps)
 items_by_numbers f [] = refl
 items_by_numbers f (p ∷ ps) = ap (λ (xs : List (Option ℕ)). items_of (f p) ++ xs) (items_by_numbers f ps)
 

@@ -1,4 +1,5 @@
 pub mod BackNumberLemmas
+pub mod BothWays
 pub mod LetterLemmas
 pub mod LevelNumberLemmas
 pub mod MarkLemmas

@@ -2,7 +2,8 @@
 //!
 //! What tables ignore, an apostrophe or a hyphen, they mostly ignore at all levels but the last. So once the first level told nothing of
 //! two texts, such characters are passed at all these levels at once, in place of going along both texts at each. The simple form is to go
-//! along at each (`forward_order` of `letter_weights`); the clause `AreAlike` joins both. It takes no memory.
+//! along at each (`forward_order` of `letter_weights`); the clause `AreAlike` joins both. It takes no memory, and ends at a character that
+//! is ignored at the first level alone, since this told nothing already.
 
 ghost use Rattle.std.specs.Prelude.{◌≡◌, ◌<◌, ◌≤◌, [], ℕ, chars, length, true, IfSome};
 ghost use Rattle.coll_nodes.specs.TableLayout.{collation};
@@ -59,7 +60,7 @@ pub(crate) fn alike_levels(
     }
 }
 
-// Two texts behind a character with which one of them begins, and which is ignored at the first level, and up to so many.
+// Two texts behind a character with which one of them begins, and which is ignored at the first two levels, and up to so many.
 #[inline(always)]
 fn pass_either<'a>(
     letters: &LetterWeights,
@@ -75,7 +76,7 @@ fn pass_either<'a>(
 {
     if let Some(first) = letters.first_letter(table, places, left) {
         let levels = ignored_levels(letters, first.row, most);
-        if levels > 0 {
+        if levels > 1 {
             return Some(Passed {
                 levels,
                 first: first.rest,
@@ -85,7 +86,7 @@ fn pass_either<'a>(
     }
     let second = letters.first_letter(table, places, right)?;
     let levels = ignored_levels(letters, second.row, most);
-    if levels == 0 {
+    if levels < 2 {
         return None;
     }
     Some(Passed {

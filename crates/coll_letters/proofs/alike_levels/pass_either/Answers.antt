@@ -4,8 +4,8 @@ use Rattle.coll_nodes.specs.TableLayout.{collation}
 use Rattle.coll_letters.proofs.LetterLemmas.{first_passed, second_passed}
 use Rattle.coll_letters.proofs.alike_levels.pass_either.Goals as goal
 
-pub returns-then-levels-gt0 : goal.returns-then-levels-gt0
-returns-then-levels-gt0 c = record {
+pub returns-then-levels-gt1 : goal.returns-then-levels-gt1
+returns-then-levels-gt1 c = record {
   levels = c.ignored_levels-levels.ensures.most;
   same = first_passed (collation c.args.table.now) c.args.letters.now.made.weights (chars c.args.left.now) (chars c.args.right.now) c.in-Some.first c.ignored_levels-levels.result c.in-Some.ensures
       (omega (arith, c.ignored_levels-levels.ensures.most, c.requires.most)) c.ignored_levels-levels.ensures.ignored;

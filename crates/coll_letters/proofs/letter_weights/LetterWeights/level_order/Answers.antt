@@ -1,10 +1,11 @@
 -- The level was seen not to tell the texts apart.
-use Rattle.std.proofs.Common.{◌≡◌, ℕ, Bool, chars, subst, sym}
+use Rattle.std.proofs.Common.{ℕ, chars, subst, sym}
 use Rattle.std.specs.declared.cmp.Ordering.TheVariants.{Equal}
 use Rattle.std.proofs.lemmas.Bool.{not-true}
 use Rattle.coll_nodes.specs.TableLayout.{collation}
-use Rattle.coll_letters.specs.LetterWeights.{OrdersSo, order_behind}
-use Rattle.coll_letters.proofs.LetterLemmas.{level_orders, level_orders_at}
+use Rattle.coll_letters.specs.LetterWeights.{OrdersSo}
+use Rattle.coll_letters.proofs.BothWays.{both_ways}
+use Rattle.coll_letters.proofs.LetterLemmas.{level_orders}
 use Rattle.coll_letters.proofs.letter_weights.LetterWeights.level_order.Goals as goal
 
 pub returns-then-seen : goal.returns-then-seen
@@ -15,6 +16,5 @@ returns-then-seen c =
 
 pub returns-then-not-rule : goal.returns-then-not-rule
 returns-then-not-rule c =
-    let table = collation c.args.table.now in
-    level_orders_at table c.args.level c.args.rule (chars c.args.text.now) (chars c.args.other.now) Equal c.if-rule.false
-    (subst (λ (p : Bool). Equal ≡ order_behind table c.args.level p 0 (chars c.args.text.now) (chars c.args.other.now)) (sym (not-true c.args.rule.position c.if-not-rule.true)) (c.requires.alike c.args.level c.if-level-alike.true))
+    both_ways (collation c.args.table.now) c.args.level c.args.rule (chars c.args.text.now) (chars c.args.other.now)
+    (not-true c.args.rule.position c.if-not-rule.true) (c.requires.alike c.args.level c.if-level-alike.true)
