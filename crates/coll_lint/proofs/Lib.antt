@@ -1,3 +1,4 @@
+pub mod GivenLemmas
 pub mod KeptLemmas
 pub mod LintCases
 pub mod OrderLemmas

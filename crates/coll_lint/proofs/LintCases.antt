@@ -12,8 +12,8 @@ use Rattle.coll_faults.specs.Faults.{fault_number}
 use Rattle.coll_bench.specs.Serving.{write_failed}
 use Rattle.coll_faults.specs.declared.faults.RunFault.{RunFault}
 use Rattle.coll_lint.specs.LintLines.{lint_text}
-use Rattle.coll_lint.specs.Lints.{BeginsWith, IsLintOf, LintRuns, LintsTexts, TellsFaults, is_at_fault, is_of_no_text}
-use Rattle.coll_findings.specs.ToldFaults.{AreOnce}
+use Rattle.coll_lint.specs.Lints.{AreGiven, BeginsWith, IsLintOf, LintRuns, LintsTexts, TellsFaults, given_faults, is_at_fault, is_of_no_text}
+use Rattle.coll_findings.specs.ToldFaults.{AreOnce, LineFault}
 use Rattle.coll_findings.specs.declared.findings.FoundFault.{FoundFault}
 use Rattle.coll_findings.proofs.OnceLemmas.{once_none}
 use Rattle.coll_lint.specs.declared.lints.Lint.{Lint}
@@ -79,17 +79,22 @@ behind_fault table_text ended texts e = faulty (table_or_fault (reads table_text
 -- what is told of texts that give a table
 pub accepted : (table_text : List ℕ) (delta_texts : List (List ℕ)) (r : Result Lint RunFault) (table : Collation) → after_inputs table_text delta_texts ≡ Ok table
     → IfOk r (λ lint. lint.faults ≡ []) → IfErr r (λ ended. is_of_no_text ended ≡ true) → LintsTexts table_text delta_texts r
-accepted table_text delta_texts (Ok lint) table judged none lacks =
-    (subst (λ o. TellsFaults o lint.faults) (sym judged) none, subst (λ (l : List FoundFault). AreOnce l) (sym none) once_none)
+accepted table_text delta_texts (Ok lint) table judged none lacks = (
+  subst (λ o. TellsFaults o lint.faults) (sym judged) none,
+  subst (λ (l : List FoundFault). AreOnce l) (sym none) once_none,
+  subst (AreGiven (given_faults (after_inputs table_text []) table_text delta_texts)) (sym none) tt,
+)
 accepted table_text delta_texts (Err ended) table judged none lacks = lacks
 
--- what is told of texts that are refused
-pub refused : (table_text : List ℕ) (delta_texts : List (List ℕ)) (first : RunFault) (r : Result Lint RunFault)
+-- what is told of texts that are refused, behind whose first fault these may be told
+pub refused : (table_text : List ℕ) (delta_texts : List (List ℕ)) (first : RunFault) (given : List LineFault) (r : Result Lint RunFault)
     → (is_of_no_text first ≡ false → after_inputs table_text delta_texts ≡ Err first)
-    → IfOk r (λ lint. is_of_no_text first ≡ false) → IfOk r (λ lint. BeginsWith first lint.faults) → IfOk r (λ lint. AreOnce lint.faults) → IfErr r (λ ended. is_of_no_text ended ≡ true)
-    → LintsTexts table_text delta_texts r
-refused table_text delta_texts first (Ok lint) judged text begins once lacks = (subst (λ o. TellsFaults o lint.faults) (sym (judged text)) begins, once)
-refused table_text delta_texts first (Err ended) judged text begins once lacks = lacks
+    → (is_of_no_text first ≡ false → given_faults (after_inputs table_text []) table_text delta_texts ≡ given)
+    → IfOk r (λ lint. is_of_no_text first ≡ false) → IfOk r (λ lint. BeginsWith first lint.faults) → IfOk r (λ lint. AreOnce lint.faults)
+    → IfOk r (λ lint. AreGiven given lint.faults) → IfErr r (λ ended. is_of_no_text ended ≡ true) → LintsTexts table_text delta_texts r
+refused table_text delta_texts first given (Ok lint) judged gives text begins once are lacks =
+    (subst (λ o. TellsFaults o lint.faults) (sym (judged text)) begins, once, subst (λ (g : List LineFault). AreGiven g lint.faults) (sym (gives text)) are)
+refused table_text delta_texts first given (Err ended) judged gives text begins once are lacks = lacks
 
 -- bytes behind those that are known
 appended : (a c : Option (List ℕ)) (before bytes : List ℕ) → a ≡ Some before → Appends a c bytes → c ≡ Some (before ++ bytes)

@@ -1,6 +1,6 @@
 -- What is told of texts: what a batch answers to them says whether they have a fault, and which one is told first (the project's own).
 use Rattle.std.specs.Prelude.{◌≡◌, ◌⊎◌, ◌<◌, ◌==◌, ◌&&◌, ◌||◌, ℕ, Bool, true, false, nat_lt, Option, Some, Result, Ok, Err}
-use Rattle.std.specs.Prelude.{List, [], ◌∷◌, ◌++◌, length}
+use Rattle.std.specs.Prelude.{List, [], ◌∷◌, ◌++◌, All, length}
 use Rattle.std.specs.List.{remove}
 use Rattle.coll_nodes.specs.Table.{Collation}
 use Rattle.coll_nodes.specs.TableLayout.{TableValue, collation}
@@ -9,7 +9,9 @@ use Rattle.coll_faults.specs.Faults.{fault_number}
 use Rattle.coll_bench.specs.Serving.{write_failed}
 use Rattle.coll_faults.specs.declared.faults.RunFault.{RunFault}
 use Rattle.coll_lint.specs.LintLines.{lint_text}
-use Rattle.coll_findings.specs.ToldFaults.{AreOnce, number_told}
+use Rattle.coll_findings.specs.ToldFaults.{AreOnce, LineFault, number_told, told_fault}
+use Rattle.coll_surveys.specs.DeltaSurveys.{delta_faults}
+use Rattle.coll_surveys.specs.TableWeights.{table_faults}
 use Rattle.coll_findings.specs.declared.findings.FoundFault.{FoundFault}
 use Rattle.coll_lint.specs.declared.lints.Lint.{Lint}
 
@@ -38,9 +40,28 @@ abbrev pub TellsFaults : Result Collation RunFault → List FoundFault → Type 
 TellsFaults (Ok table) faults = faults ≡ []
 TellsFaults (Err first) faults = BeginsWith first faults
 
--- what is told of texts, no fault twice
+-- a fault of a line is one of these
+abbrev pub IsOneOf : LineFault → (given : List LineFault) → Type 0
+IsOneOf f given = (before : List LineFault) × (later : List LineFault) × (given ≡ before ++ f ∷ later)
+
+-- each fault that is told behind the first is one of these
+abbrev pub AreGiven : (given : List LineFault) → List FoundFault → Type 0
+AreGiven given [] = Unit {0}
+AreGiven given (first ∷ later) = All (λ found. IsOneOf (told_fault found) given) later
+
+-- what judging each line of texts gives, over what the lines before it left: of the table, or, where that is without fault, of the
+-- delta file over it
+abbrev pub given_faults : Result Collation RunFault → (table_text : List ℕ) → (delta_texts : List (List ℕ)) → List LineFault
+given_faults (Err first) table_text delta_texts = table_faults table_text
+given_faults (Ok table) table_text [] = []
+given_faults (Ok table) table_text (delta_text ∷ later) = delta_faults table delta_text
+
+-- what is told of texts, no fault twice, and behind the first none but those that judging their lines gives
 abbrev pub IsLintOf : (table_text : List ℕ) → (delta_texts : List (List ℕ)) → Lint → Type 0
-IsLintOf table_text delta_texts lint = TellsFaults (after_inputs table_text delta_texts) lint.faults × AreOnce lint.faults
+IsLintOf table_text delta_texts lint =
+    TellsFaults (after_inputs table_text delta_texts) lint.faults
+    × AreOnce lint.faults
+    × AreGiven (given_faults (after_inputs table_text []) table_text delta_texts) lint.faults
 
 -- a fault ended a run that is none of the texts: a read failed, or memory was refused
 abbrev pub is_of_no_text : RunFault → Bool

@@ -5,15 +5,17 @@
 //! survey, and no fault is told twice. A table without fault is read once: the table that the batch gives is the one that is surveyed,
 //! and a delta file is judged over a copy of it.
 
-ghost use Rattle.std.specs.Prelude.{◌≡◌, ◌∷◌, [], true, Ok, map, string_bytes, option_map, option_to_list, IfOk, IfErr, false};
+ghost use Rattle.std.specs.Prelude.{◌≡◌, ◌∷◌, [], true, Ok, map, string_bytes, option_map, option_to_list, IfOk, IfErr, MatchResult, false};
 ghost use Rattle.coll_devices.specs.Devices.{Sends};
 ghost use Rattle.coll_bench.specs.BatchOutcome.{after_inputs};
 ghost use Rattle.coll_bench.specs.Serving.{write_failed as failed_write};
 ghost use Rattle.coll_lint.specs.LintLines.{lint_text};
-ghost use Rattle.coll_lint.specs.Lints.{BeginsWith, JudgesTable, JudgesDelta, LintRuns, LintsTexts, is_at_fault};
+ghost use Rattle.coll_lint.specs.Lints.{AreGiven, BeginsWith, JudgesTable, JudgesDelta, LintRuns, LintsTexts, is_at_fault};
 ghost use Rattle.coll_lint.specs.Lints.{is_of_no_text as of_no_text};
 ghost use Rattle.coll_nodes.specs.TableLayout.{collation};
-ghost use Rattle.coll_findings.specs.ToldFaults.{AreOnce};
+ghost use Rattle.coll_findings.specs.ToldFaults.{AreOnce, told_fault};
+ghost use Rattle.coll_surveys.specs.DeltaSurveys.{delta_faults};
+ghost use Rattle.coll_surveys.specs.TableWeights.{table_faults};
 
 use crate::first_faults::put_first;
 use crate::kept_texts::no_memory;
@@ -170,6 +172,7 @@ fn lint_faulty_delta(
     ensures text { IfOk result (λ lint. of_no_text first ≡ false) }
     ensures begins { IfOk result (λ lint. BeginsWith first lint.faults) }
     ensures once { IfOk result (λ lint. AreOnce lint.faults) }
+    ensures given { IfOk result (λ lint. AreGiven (delta_faults (collation read) delta.now) lint.faults) }
     ensures memory { IfErr result (λ ended. of_no_text ended ≡ true) }
 {
     if is_of_no_text(&first) {
@@ -190,6 +193,7 @@ fn lint_faulty(
     ensures text { IfOk result (λ lint. of_no_text first ≡ false) }
     ensures begins { IfOk result (λ lint. BeginsWith first lint.faults) }
     ensures once { IfOk result (λ lint. AreOnce lint.faults) }
+    ensures given { IfOk result (λ lint. AreGiven (table_faults table.now) lint.faults) }
     ensures memory { IfErr result (λ ended. of_no_text ended ≡ true) }
 {
     if is_of_no_text(&first) {
@@ -230,6 +234,7 @@ fn lint_if_refused(
     requires { IfOk surveyed (λ surveyed. AreOnce surveyed.told.faults.items) }
     ensures begins { IfOk result (λ lint. BeginsWith first lint.faults) }
     ensures once { IfOk result (λ lint. AreOnce lint.faults) }
+    ensures given { IfOk result (λ lint. MatchResult surveyed (λ surveyed. AreGiven (map told_fault surveyed.told.faults.items) lint.faults) (λ _. ⊥)) }
     ensures memory { IfErr result (λ ended. of_no_text ended ≡ true) }
 {
     match surveyed {
@@ -318,6 +323,7 @@ fn refused(
     requires { AreOnce surveyed.told.faults.items }
     ensures begins { IfOk result (λ lint. BeginsWith first lint.faults) }
     ensures once { IfOk result (λ lint. AreOnce lint.faults) }
+    ensures given { IfOk result (λ lint. AreGiven (map told_fault surveyed.told.faults.items) lint.faults) }
 {
     let Told {
         mut faults,

@@ -265,7 +265,8 @@ impl TableSurvey {
         declared_name(read)
     }
 
-    // Tells a line that the builder refuses. One that would open an order opens one.
+    // Tells a line that the builder refuses, unless its rules differ where no line of the text gave any: they are then those of an order
+    // that was opened for a line outside of one. One that would open an order opens one.
     fn refuse_read(&mut self, line: &Line, starts: bool, fault: LoadFault) -> Result<(), AllocError>
         requires { AreTokens line.now.tokens }
         ensures memory { OnOk result (fault.cause ≢ OutOfMemory) }
@@ -277,8 +278,11 @@ impl TableSurvey {
         if let LoadCause::OutOfMemory = fault.cause {
             return Err(AllocError);
         }
-        let about = subject_again(self.alloc, line, fault.cause)?;
         open_if(starts, &mut self.builder)?;
+        if !self.ruled && matches!(fault.cause, LoadCause::RulesDiffer) {
+            return Ok(());
+        }
+        let about = subject_again(self.alloc, line, fault.cause)?;
         tell(fault, about, &mut self.told)
     }
 }
