@@ -422,7 +422,7 @@ def made(program, folder, seed):
 
 
 def too_long(program, folder):
-    """How the lints of texts that are too long differ: a table with a declaration too many, and a delta file with two lines too many."""
+    """How the lints of texts that are too long differ: with a declaration or an entry too many, and with two lines too many."""
     text = Text(random.Random(0))
     text.put_all(["LC_COLLATE", *(f"collating-symbol <S{number}>" for number in range(262144))])
     text.put("collating-symbol <LAST>", (42, "<LAST>"))
@@ -436,7 +436,18 @@ def too_long(program, folder):
     with open(long, "wb") as file:
         file.write(b"LC_COLLATE\n" + b"\n" * 4194305)
     # Of the lines that are too many one is told. The last line that is taken is the one before, and no end stands there.
-    yield differs(program, [base, long], [(4194305, 12, None), (4194304, 43, None)])
+    for paths in [long], [base, long]:
+        yield differs(program, paths, [(4194305, 12, None), (4194304, 43, None)])
+    table_of_all, block = (os.path.join(folder, name) for name in ("all.txt", "block.txt"))
+    all_entries = Text(random.Random(0))
+    all_entries.put_all(["LC_COLLATE", "order_start forward", *(f"<U{0x10000 + number:08X}>" for number in range(262144)), "order_end", "END LC_COLLATE"])
+    all_entries.write(table_of_all)
+    more = Text(random.Random(0))
+    more.put("LC_COLLATE")
+    # A block moves one that is there, and places one too many, which is a fault of the block as a whole.
+    more.put("reorder-after <U00010000>", (42, None))
+    more.put_all(["<U00010005>", "<U0061>", "reorder-end", "END LC_COLLATE"])
+    yield differs(program, [table_of_all, block], more.write(block))
 
 
 def checked(program, folder, seed):

@@ -9,8 +9,9 @@ glibc, in /usr/share/i18n/locales, and `localedef`, which Debian's package `loca
 Each source of SOURCES is imported, which has to tell nothing that is lost, and the table has to load with as many entries and
 declarations as stated. Each tailoring goes through `import-delta` over the table of what it copies: it may lose what LOST states and
 nothing else, the names that it places in another spelling than it declares have to be told, and `check` has to accept the delta
-file. A source that copies a tailoring alone has to give the same statements. Then the order of words is compared with `strcoll` under
-the locale that `localedef` compiles of the same source, and under that which it compiles of the exported table:
+file; of one with a block of 4,000 lines `lint` has to tell what is put wrong in the last of these, and nothing else. A source that
+copies a tailoring alone has to give the same statements. Then the order of words is compared with `strcoll` under the locale that
+`localedef` compiles of the same source, and under that which it compiles of the exported table:
 
 - 3,000 random words of many scripts' characters and, for a tailoring, of those that it names, put into the order of their keys: each
   two neighbours and 20,000 other pairs. Under the first locale those may stand otherwise in which marks stand in a row that combine
@@ -359,6 +360,25 @@ def check_source(program, tables, name, room):
         compare(program, name, locale, table, pools, room)
 
 
+def lint_damaged(program, below, delta, damaged):
+    """Lints a delta file in which line 4,000 of a block, if one has so many, places what isn't declared."""
+    with open(delta, encoding="utf-8") as file:
+        lines = file.read().split("\n")
+    for start, line in enumerate(lines):
+        if line.startswith("reorder-after ") and lines.index("reorder-end", start) > start + 4000:
+            lines[start + 4000] = "<no-such-name>"
+            break
+    else:
+        return
+    with open(damaged, "w", encoding="utf-8") as file:
+        file.write("\n".join(lines))
+    linted = subprocess.run([program, "lint", below, damaged], capture_output=True, encoding="utf-8", check=False)
+    told = [line for line in linted.stdout.splitlines() if ": warning: " not in line]
+    wanted = f"{damaged}:{start + 4001}: 34 NotDeclared <no-such-name>: "
+    if linted.returncode != 1 or len(told) != 1 or not told[0].startswith(wanted):
+        raise Unwanted(f"a damaged line is told as {told[:3]}, and not as {wanted}")
+
+
 def check_tailoring(program, tables, name, copied_by, room):
     """Imports a tailoring."""
     below, delta, changed = tables.below(name), f"{room}/delta.txt", f"{room}/changed.txt"
@@ -369,6 +389,7 @@ def check_tailoring(program, tables, name, copied_by, room):
     if (place, count) != (f"{FOLDER}/{name}:{SLIPS.get(name, (0, 0))[0]}", SLIPS.get(name, (0, 0))[1]):
         raise Unwanted(f"{place}: {count} names are placed and not declared")
     ran(program, "check", below, delta)
+    lint_damaged(program, below, delta, f"{room}/damaged.txt")
     for copying_it in copied_by:
         if written(program, "import-delta", below, f"{FOLDER}/{copying_it}", to=changed) and not same(delta, changed):
             raise Unwanted(f"{copying_it}, which copies it alone, gives other statements")

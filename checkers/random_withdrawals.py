@@ -9,7 +9,9 @@ K` a fresh session makes the statements that remained, but the K-th. Where it ac
 withdrawn, and table, history and key are those of the fresh session; else `:withdraw` is refused with the number, in the old list,
 of the first statement that the fresh session refuses, and its refusal, and all is as it was. Behind each line the key and the order,
 for which the places of entries may follow what was done, are those that a fresh session answers which makes the statements that then
-remain, and then all ranks, for a text that is too long to be looked up by itself. The lines are the same in each run.
+remain, and then all ranks, for a text that is too long to be looked up by itself. Behind all lines an edit writes the statements
+that remain into a delta file: it gives the table that the session printed, and just these statements. The lines are the same in
+each run.
 
 The last line is 'N passed, M failed', where a run is one history.
 """
@@ -135,6 +137,22 @@ def wanted(program, table, remaining, number, before):
     return f"withdrawn {len(others)}", seen(answers)
 
 
+def written_otherwise(program, table, lines, printed, delta):
+    """How the delta file that an edit writes behind these lines differs from the statements that remain, or none."""
+    def ran(words, given=""):
+        return subprocess.run([program, *words], input=given, capture_output=True, encoding="utf-8", timeout=60, check=True).stdout
+
+    ran(["edit", table], f"{''.join(lines)}:write {delta}\n")
+    with open(delta, encoding="utf-8") as file:
+        statements = file.read()
+    read = ran(["edit", table, delta], ":delta\n")
+    table_of_it = ran(["print", table, delta]).splitlines()
+    os.remove(delta)
+    if read != statements:
+        return f"{read!r} is read back of {statements!r}"
+    return None if table_of_it == printed else f"{statements!r} gives {table_of_it}, and not {printed}"
+
+
 def checked(program, table, seed):
     """What differs in one history, or none, and how often a statement was withdrawn and how often it was still needed."""
     try:
@@ -173,7 +191,9 @@ def compared(program, table, seed):
         if after[-len(ASKED) :] != right:
             return f"history {seed}, {it.strip()}, behind which {remaining} remain: {after}, wanted {right}", counts
         before = after
-    return None, counts
+    printed = before[: -len(ASKED) - 1 - len(remaining)]
+    why = written_otherwise(program, table, lines, printed, f"{table}.{seed}")
+    return why and f"history {seed}, {remaining} written: {why}", counts
 
 
 def run_all(program, histories=HISTORIES):

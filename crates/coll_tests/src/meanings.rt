@@ -85,6 +85,25 @@ const NAMES: &[&str] = &[
     "",
 ];
 
+// Order lines of all of them that are names: each is placed, weighed, named alone and in a list, and placed again.
+const ORDERED: &str = "order_start forward
+<S0> <S1>
+<S1> <a-symbol-of-more-than-sixteen-bytes>
+<a-symbol-of-more-than-sixteen-bytes> <E>
+<E> <T>
+<T> <U>
+<U> <N>
+<N> <M>
+<M> <S0>
+<U0061> \"<E><T><N>\"
+<U0062> \"<S0><S1><U><M>\"
+<E> <N>
+<T> <M>
+<N>
+<M> <E>
+order_end
+";
+
 // An identifier of this name.
 fn named(rt: &impl Abort, alloc: Global, name: &str) -> Id {
     Id::Named(TextBuf::copied(alloc, name).expect(rt, "a name"))
@@ -145,18 +164,21 @@ fn assert_lines(
     drop(wanted);
 }
 
-// The text of a source of these declarations.
-fn source(rt: &impl Abort, alloc: Global, first: &str, second: &str) -> Vec<u8> {
+// The text of a source of these lines.
+fn source(rt: &impl Abort, alloc: Global, parts: &[&str]) -> Vec<u8> {
     let mut text = Vec::new(alloc);
-    for part in &["LC_COLLATE\n", first, second, "END LC_COLLATE\n"] {
+    text.extend_from_slice(b"LC_COLLATE\n").expect(rt, "a text");
+    for part in parts {
         text.extend_from_slice(part.as_bytes()).expect(rt, part);
     }
+    text.extend_from_slice(b"END LC_COLLATE\n")
+        .expect(rt, "a text");
     text
 }
 
-// Asserts that the same is told of a source of these declarations.
+// Asserts that the same is told of a source of these declarations, and of order lines behind them.
 fn assert_alike(rt: &impl Abort, alloc: Global, over: &Tailoring, first: &str, second: &str) {
-    let text = source(rt, alloc, first, second);
+    let text = source(rt, alloc, &[first, second, ORDERED]);
     let lines = said(rt, alloc, &text);
     drop(text);
     assert_lines(rt, alloc, None, &lines, &over.names);
@@ -291,7 +313,7 @@ fn assert_named(
 // Asserts that the same is told of a source with these declarations by each form.
 fn assert_full(rt: &impl Abort, alloc: Global, declared: &str) {
     let ids = all_named(rt, alloc, OF_FULL);
-    let text = source(rt, alloc, declared, "");
+    let text = source(rt, alloc, &[declared]);
     let lines = said(rt, alloc, &text);
     drop(text);
     let wanted = told(rt, alloc, simple_form(rt, alloc, None, &[]), &lines, &ids);
