@@ -80,7 +80,7 @@ def statement(chance):
     if kind == "symbol":
         return f"collating-symbol {chance.choice(SYMBOLS[4:6])}\n"
     if kind == "element":
-        return f"collating-element {chance.choice(CHARACTERS[1:3])} from \"{chance.choice(['ab', 'de'])}\"\n"
+        return f"collating-element {chance.choice(CHARACTERS[1:3])} from \"{chance.choice(['ab', 'de', 'abd', 'bde'])}\"\n"
     if kind == "equivalence":
         return f"symbol-equivalence {chance.choice(SYMBOLS[6:])} {chance.choice(SYMBOLS)}\n"
     if kind == "section":
