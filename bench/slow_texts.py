@@ -284,11 +284,30 @@ def moved_to_the_end(count):
     return delta(['collating-element <az> from "az"\n', *moves])
 
 
+def words_with(pair):
+    """Words of nine letters, in each of which these two stand one behind the other."""
+    letters = random.Random(7)
+    made = (letters.choices("abcdefghijklmnopqrstuvwxy", k=7) for _ in range(60_000))
+    return "".join(f"{''.join(word[:3])}{pair}{''.join(word[3:])}\n" for word in made)
+
+
+def moved_apart(count):
+    """A delta file whose statements put a character that no word has behind another one and back."""
+    return delta(f"reorder-after {character(turn % 2 * 2)}\n{character(1)}\nreorder-end\n" for turn in range(count))
+
+
 LETTERS = table("".join(f"{it}\n" for it in (*"0abcdefghijklmnopqrstuvwxyz", *map(character, range(100_000)))))
+# The same with the collating elements of Hungarian behind their first letters.
+PAIRS = ("cs", "dz", "gy", "ly", "ny", "sz", "ty", "zs")
+DIGRAPHS = table(
+    "".join(f"{it}\n" for letter in ALPHABET for it in (letter, *(f"<{pair}>" for pair in PAIRS if pair[0] == letter)))
+    + "".join(f"{character(number)}\n" for number in range(100_000)),
+    "".join(f'collating-element <{pair}> from "{pair}"\n' for pair in PAIRS))
 # Of each row that is measured beside other words: its name, how many times as long as with these it may take, the table, the delta file,
 # its words, and the others.
 BESIDE = {
     "review: many words beside one that may hold an element": (3, LETTERS, moved_to_the_end(20), words_of_a("z"), words_of_a("y")),
+    "review: words that each hold an element": (2, DIGRAPHS, moved_apart(20), words_with("sz"), words_with("sk")),
 }
 
 

@@ -1,5 +1,5 @@
 -- What the characters of texts weigh decides their order.
-use Rattle.std.proofs.Common.{◌≡◌, inl, inr, ⊎_elim, ℕ, zero, suc, ◌+◌, ◌<◌, ◌≤◌, Bool, true, false, List, [], ◌∷◌, ◌++◌, length, map, Option, None, Some, All, chars, refl, sym, ap, subst, ◌∙◌, append_assoc, arith, drop, get_or}
+use Rattle.std.proofs.Common.{◌≡◌, inl, inr, ⊎_elim, ℕ, zero, suc, ◌+◌, ◌<◌, ◌≤◌, Bool, true, false, List, [], ◌∷◌, ◌++◌, length, map, Option, None, Some, chars, refl, sym, ap, subst, ◌∙◌, append_assoc, arith, drop, get_or}
 use Rattle.std.specs.Prelude.{IfSome, slice_index_or}
 use Rattle.std.specs.List.{flat_map}
 use Rattle.std.specs.Ordering.{is_lt, is_ne, nat_cmp, ordering_then}
@@ -8,20 +8,16 @@ use Rattle.std.specs.declared.cmp.Ordering.TheVariants.{Less, Equal, Greater}
 use Rattle.std.specs.Cmp.{nat_cmp_is}
 use Rattle.std.proofs.lemmas.Bool.{false≢true, true≢false}
 use Rattle.std.proofs.lemmas.List.{map-append}
-use Rattle.std.proofs.lemmas.List.Elements.{All-append, All-cons, All-nil}
 use Rattle.std.specs.Str.{IsUtf8}
 use Rattle.std.proofs.lemmas.Str.{IsCharBoundary-after_ascii, IsUtf8-drop, chars-nil, chars_past_char, encode_ascii}
 use Rattle.coll_syntax.specs.declared.identifiers.Id.TheVariants.{Char}
 use Rattle.coll_syntax.specs.declared.rules.Rule.{Rule}
 use Rattle.coll_nodes.specs.Table.{Collation}
 use Rattle.coll_elements.specs.Elements.{Element, beyond_first, element_id, element_text, elements_of, elements_placed, split}
-use Rattle.coll_ranks.specs.LevelWeights.{row_numbers, row_of}
+use Rattle.coll_ranks.specs.LevelWeights.{row_numbers}
 use Rattle.coll_ranks.specs.RankLists.{WeightsValue}
-use Rattle.coll_ranks.specs.Ranks.{compiled_numbers}
 use Rattle.coll_ranks.specs.WeightNumbers.{numbers_at}
 use Rattle.coll_ranks.specs.declared.text_elements.ElementRow.{ElementRow}
-use Rattle.coll_ranks.specs.declared.text_elements.TextElement.{TextElement}
-use Rattle.coll_ranks.proofs.LevelRows.{rows_of_elements}
 use Rattle.coll_nodes.specs.WellFormed.{IsWellFormed}
 use Rattle.coll_key.proofs.KeyOrder.{keys_in_order}
 use Rattle.coll_key.specs.SortKey.{key_of}
@@ -32,13 +28,12 @@ use Rattle.coll_key.specs.RowKeys.{AreRowsOf}
 use Rattle.coll_key.specs.LevelList.{items, items_of, level_list, listed, position_of}
 use Rattle.coll_key.specs.TextOrder.{level_lists, list_order, order_of}
 use Rattle.coll_letters.specs.AlikeLevels.{AreAlike}
-use Rattle.coll_letters.specs.ElementMarks.{AreAlone, AreMarks, GoesOnOther, GoesOnOtherAt, IsAloneAt, IsApart, IsApartAt, IsSameAt, StandsAlone}
+use Rattle.coll_letters.specs.ElementMarks.{AreMarks, GoesOnOther, GoesOnOtherAt, IsAloneAt, IsApart, IsApartAt, IsSameAt, StandsAlone, pair_mark}
 use Rattle.coll_letters.proofs.LevelNumberLemmas.{gaps_tell_nothing}
 use Rattle.coll_letters.proofs.MarkLemmas.{stands_apart}
-use Rattle.coll_letters.specs.LetterWeights.{DecidesBoth, GoesOn, IsFirstLetter, IsLetterRow, IsLevelOrder, IsRowOf, IsStep, IsStepAtEnd, IsStepOfBoth, OrdersAlike, OrdersAlikeAt, OrdersSo, PassesAtEnd, PassesOne, list_behind, order_at_end, order_behind, text_items, text_numbers}
+use Rattle.coll_letters.specs.LetterWeights.{DecidesBoth, GoesOn, IsFirstLetter, IsLevelOrder, IsRowOf, IsStep, IsStepAtEnd, IsStepOfBoth, OrdersAlike, OrdersAlikeAt, OrdersSo, PassesAtEnd, PassesOne, list_behind, order_at_end, order_behind, text_items, text_numbers}
 use Rattle.coll_letters.specs.declared.element_marks.ElementMarks.{ElementMarks}
 use Rattle.coll_letters.specs.declared.letter_weights.FirstLetter.{FirstLetter}
-use Rattle.coll_letters.specs.declared.letter_weights.LetterRow.{LetterRow}
 use Rattle.coll_letters.specs.declared.letter_weights.LetterStep.{LetterStep}
 use Rattle.coll_letters.specs.declared.letter_weights.LetterStep.TheVariants.{Decided, Later, PassedFirst, PassedSecond, Unknown}
 
@@ -171,7 +166,7 @@ same_some position (n ∷ ns) xs ys =
     same_number position 0 n (listed position 0 (map Some ns ++ xs)) (listed position 0 (map Some ns ++ ys)) ∙ same_some position ns xs ys
 
 -- the same element leaves it to what comes later
-same_element : (position : Bool) (gaps : ℕ) (ns : List ℕ) (xs ys : List (Option ℕ))
+pub same_element : (position : Bool) (gaps : ℕ) (ns : List ℕ) (xs ys : List (Option ℕ))
     → (after : ℕ) × (list_order (listed position gaps (items_of ns ++ xs)) (listed position gaps (items_of ns ++ ys)) ≡ list_order (listed position after xs) (listed position after ys))
 same_element position gaps [] xs ys = (suc gaps, refl)
 same_element position gaps (n ∷ ns) xs ys =
@@ -205,12 +200,12 @@ pub behind_byte : (b : ℕ) (rest : List ℕ) → IsUtf8 (b ∷ rest) → b < 12
 behind_byte b rest utf8 low = IsUtf8-drop (b ∷ rest) 1 utf8 (IsCharBoundary-after_ascii (b ∷ rest) 0 utf8 (omega arith) low)
 
 -- no element begins with it there
-goes_on_first : (marks : ElementMarks) (b : ℕ) (rest : List ℕ) → IsUtf8 rest → GoesOnOtherAt marks (b ∷ rest) 0 → GoesOnOther marks (chars rest)
-goes_on_first marks b [] utf8 goes = subst (GoesOnOther marks) (sym chars-nil) tt
+goes_on_first : (marks : ElementMarks) (b : ℕ) (rest : List ℕ) → IsUtf8 rest → GoesOnOtherAt marks (b ∷ rest) 0 → GoesOnOther marks b (chars rest)
+goes_on_first marks b [] utf8 goes = subst (GoesOnOther marks b) (sym chars-nil) tt
 goes_on_first marks b (d ∷ more) utf8 goes =
     ⊎_elim
     (λ (short : length (b ∷ d ∷ more) ≤ suc 0). absurd (omega (arith, short)))
-    (λ (low : (d < 128) × (slice_index_or marks.seconds d 0 ≡ 0)). subst (GoesOnOther marks) (sym (byte_first d more utf8 low.0)) low.1)
+    (λ (low : (d < 128) × (pair_mark marks b d ≡ 0)). subst (GoesOnOther marks b) (sym (byte_first d more utf8 low.0)) low.1)
     goes
 
 pub apart_first : (marks : ElementMarks) (b : ℕ) (rest : List ℕ) → IsUtf8 rest → IsApartAt marks (b ∷ rest) 0 → IsApart marks b (chars rest)
@@ -225,18 +220,18 @@ goes_on_behind : (marks : ElementMarks) (b : ℕ) (bytes : List ℕ) (place : �
 goes_on_behind marks b bytes place goes =
     ⊎_elim
     (λ (short : length (b ∷ bytes) ≤ suc (suc place)). inl (omega (arith, short)))
-    (λ (low : (slice_index_or bytes (suc place) 0 < 128) × (slice_index_or marks.seconds (slice_index_or bytes (suc place) 0) 0 ≡ 0)). inr low)
+    (λ (low : (slice_index_or bytes (suc place) 0 < 128) × (pair_mark marks (slice_index_or bytes place 0) (slice_index_or bytes (suc place) 0) ≡ 0)). inr low)
     goes
 
+pub apart_behind : (marks : ElementMarks) (b : ℕ) (bytes : List ℕ) (place : ℕ) → IsApartAt marks (b ∷ bytes) (suc place) → IsApartAt marks bytes place
+apart_behind marks b bytes place apart =
+    ⊎_elim
+    (λ (none : slice_index_or marks.firsts (slice_index_or bytes place 0) 0 ≡ 0). inl none)
+    (λ (low : (slice_index_or marks.firsts (slice_index_or bytes place 0) 0 < 2) × GoesOnOtherAt marks (b ∷ bytes) (suc place)). inr (low.0, goes_on_behind marks b bytes place low.1))
+    apart
+
 pub alone_behind : (marks : ElementMarks) (b : ℕ) (bytes : List ℕ) (place : ℕ) → IsAloneAt marks (b ∷ bytes) (suc place) → IsAloneAt marks bytes place
-alone_behind marks b bytes place is = record {
-  within = omega (arith, is.within);
-  alone = is.alone;
-  apart = ⊎_elim
-      (λ (none : slice_index_or marks.firsts (slice_index_or bytes place 0) 0 ≡ 0). inl none)
-      (λ (low : (slice_index_or marks.firsts (slice_index_or bytes place 0) 0 < 2) × GoesOnOtherAt marks (b ∷ bytes) (suc place)). inr (low.0, goes_on_behind marks b bytes place low.1))
-      is.apart;
-}
+alone_behind marks b bytes place is = record { within = omega (arith, is.within); alone = is.alone; apart = apart_behind marks b bytes place is.apart }
 
 -- behind such characters a text goes on, and is no longer
 pub record GoesOnBehind (text rest : List ℕ) : Type 0 where
@@ -469,32 +464,6 @@ alike_ended table count text other left right none other_none alike = λ level w
 
 -- Rows.
 
-abbrev first_or : List ℕ → List (List ℕ) → List ℕ
-first_or none [] = none
-first_or none (l ∷ ls) = l
-
-abbrev others_of : List (List ℕ) → List (List ℕ)
-others_of [] = []
-others_of (l ∷ ls) = ls
-
--- the row of an element has its numbers
-pub row_has : (weights : WeightsValue) (level : ℕ) (element : TextElement) → row_numbers weights level (row_of weights element) ≡ compiled_numbers weights level element
-row_has weights level element = ap (first_or (row_numbers weights level (row_of weights element))) (rows_of_elements weights level (element ∷ []))
-
-module _ (table : Collation) (weights : WeightsValue) (element : TextElement) (elements : List TextElement) (c : ℕ) (text rest : List ℕ) (is : text ≡ c ∷ rest)
-    (alone : StandsAlone table c rest)
-    (same : (level : ℕ) → level < length table.rules → map (compiled_numbers weights level) (element ∷ elements) ≡ text_numbers table level text) where
-  from_first : (level : ℕ) → level < length table.rules → map (compiled_numbers weights level) (element ∷ elements) ≡ numbers_at table level (Char c) ∷ text_numbers table level rest
-  from_first level within = same level within ∙ ap (text_numbers table level) is ∙ ap (map (numbers_at table level)) (alone_first table c rest alone)
-
-  pub row_of_first : IsRowOf table weights c (row_of weights element)
-  row_of_first = record {
-    numbers = λ level within. row_has weights level element ∙ ap (first_or (compiled_numbers weights level element)) (from_first level within);
-  }
-
-  pub rows_behind : (level : ℕ) → level < length table.rules → map (compiled_numbers weights level) elements ≡ text_numbers table level rest
-  rows_behind level within = ap others_of (from_first level within)
-
 -- no text has no numbers
 pub no_numbers : (table : Collation) (level : ℕ) (bytes : List ℕ) → bytes ≡ [] → text_numbers table level (chars bytes) ≡ []
 unfolding elements_of
@@ -506,41 +475,6 @@ pub one_row_more : (f : ElementRow → List ℕ) (rows with : List ElementRow) (
 one_row_more f rows with row left later whole is begins so_far =
     ap (λ (l : List ElementRow). map f l ++ later) is ∙ ap (λ (l : List (List ℕ)). l ++ later) (map-append f rows (row ∷ []))
     ∙ append_assoc (map f rows) (f row ∷ []) later ∙ ap (λ (l : List (List ℕ)). map f rows ++ l) (sym begins) ∙ so_far
-
-begins : {X : Type 0} (xs : List X) (i : ℕ) (d : X) → i < length xs → drop i xs ≡ get_or xs i d ∷ drop (i + 1) xs
-begins [] i d within = absurd (omega (arith, within))
-begins (x ∷ xs) zero d within = refl
-begins (x ∷ xs) (suc i) d within = begins xs i d (omega (arith, within)) ∙ ap (λ (n : ℕ). get_or xs i d ∷ drop n (x ∷ xs)) (one_on i)
-  where
-    one_on : (i : ℕ) → suc (i + 1) ≡ suc i + 1
-    one_on i = omega arith
-
--- the rows so far are those of their characters, and the elements that are left those of the characters that are
-pub record RowsSoFar (table : Collation) (weights : WeightsValue) (left : List TextElement) (found : List LetterRow) (text : List ℕ) : Type 0 where
-  pub rows : All (IsLetterRow table weights) found
-  pub alone : AreAlone table text
-  pub later : (level : ℕ) → level < length table.rules → map (compiled_numbers weights level) left ≡ text_numbers table level text
-
-pub rows_go_on : (table : Collation) (weights : WeightsValue) (elements items : List TextElement) (index : ℕ) (d : TextElement) (rows with : List LetterRow) (letter : ℕ) (row : ElementRow)
-    (text rest : List ℕ) → items ≡ elements → index < length items → text ≡ letter ∷ rest → row ≡ row_of weights (get_or items index d) → with ≡ rows ++ record { letter = letter; row = row } ∷ []
-    → RowsSoFar table weights (drop index elements) rows text → RowsSoFar table weights (drop (index + 1) elements) with rest
-rows_go_on table weights elements items index d rows with letter row text rest same within is row_is with_is so_far =
-    let element = get_or items index d in
-    let left : drop index elements ≡ element ∷ drop (index + 1) elements =
-    ap (drop index) (sym same) ∙ begins items index d within ∙ ap (λ (l : List TextElement). element ∷ drop (index + 1) l) same in
-    let alone : AreAlone table (letter ∷ rest) = subst (AreAlone table) is so_far.alone in
-    let here : StandsAlone table letter rest = alone.0 in
-    let numbers : (level : ℕ) → level < length table.rules → map (compiled_numbers weights level) (element ∷ drop (index + 1) elements) ≡ text_numbers table level text =
-    λ level low. ap (map (compiled_numbers weights level)) (sym left) ∙ so_far.later level low in
-    let one : IsRowOf table weights letter row =
-    subst (IsRowOf table weights letter) (sym row_is) (row_of_first table weights element (drop (index + 1) elements) letter text rest is here numbers) in
-    record {
-      rows = subst (All (IsLetterRow table weights)) (sym with_is)
-          (All-append (IsLetterRow table weights) rows (record { letter = letter; row = row } ∷ []) so_far.rows
-          (All-cons (IsLetterRow table weights) (record { letter = letter; row = row }) [] one (All-nil (IsLetterRow table weights))));
-      alone = alone.1;
-      later = rows_behind table weights element (drop (index + 1) elements) letter text rest is here numbers;
-    }
 
 same_list : (ns : List ℕ) → list_order ns ns ≡ Equal
 same_list [] = refl

@@ -1,6 +1,9 @@
 pub mod BackNumberLemmas
 pub mod BothWays
+pub mod FirstPieceLemmas
 pub mod LetterLemmas
 pub mod LevelNumberLemmas
 pub mod MarkLemmas
 pub mod NumberLemmas
+pub mod PieceRowLemmas
+pub mod SureFronts

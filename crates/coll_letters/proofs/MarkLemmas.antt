@@ -1,5 +1,5 @@
 -- Marks that tell of all that is declared tell where no element begins.
-use Rattle.std.proofs.Common.{◌≡◌, ⊎_elim, ℕ, ◌<◌, ◌≤◌, ◌&&◌, ◌==◌, Bool, true, false, if◌then◌else◌, List, [], ◌∷◌, ◌++◌, None, Some, refl, sym, ap, subst, ◌∙◌, arith}
+use Rattle.std.proofs.Common.{◌≡◌, ⊎_elim, ℕ, ◌<◌, ◌≤◌, ◌&&◌, ◌==◌, Bool, true, false, if◌then◌else◌, List, [], ◌∷◌, ◌++◌, length, None, Some, refl, sym, ap, subst, ◌∙◌, arith}
 use Rattle.std.specs.Prelude.{slice_index_or}
 use Rattle.std.specs.List.{flat_map}
 use Rattle.std.proofs.lemmas.Bool.{eqb-true}
@@ -9,7 +9,7 @@ use Rattle.coll_nodes.specs.declared.declarations.Declaration.{Declaration}
 use Rattle.coll_nodes.specs.declared.declarations.Declaration.TheVariants as declaration
 use Rattle.coll_elements.specs.Elements.{Element, begins_with, element_placed, element_text, longer, longest}
 use Rattle.coll_elements.proofs.Tests.{by_test}
-use Rattle.coll_letters.specs.ElementMarks.{AreAllApart, AreAlone, AreMarked, AreMarks, BeginsOther, GoesOnOther, IsApart, KeepMarks, StandsAlone, TellOfAll, TellsOf}
+use Rattle.coll_letters.specs.ElementMarks.{AreMarked, AreMarks, BeginsOther, GoesOnOther, IsApart, KeepMarks, StandsAlone, TellOfAll, TellsOf, pair_mark, place_of_pair}
 use Rattle.coll_letters.specs.declared.element_marks.ElementMarks.{ElementMarks}
 
 -- Elements that are declared.
@@ -47,16 +47,16 @@ not_first marks c e rest same marked apart =
     let here = ap (λ (n : ℕ). slice_index_or marks.firsts n 0) same in
     ⊎_elim
     (λ (none : slice_index_or marks.firsts c 0 ≡ 0). absurd (omega (arith, none, here, marked)))
-    (λ (low : (slice_index_or marks.firsts c 0 < 2) × GoesOnOther marks rest). absurd (omega (arith, low.0, here, marked)))
+    (λ (low : (slice_index_or marks.firsts c 0 < 2) × GoesOnOther marks c rest). absurd (omega (arith, low.0, here, marked)))
     apart
 
-not_both : (marks : ElementMarks) (c d e f : ℕ) (rest : List ℕ) → c ≡ e → d ≡ f → 1 ≤ slice_index_or marks.firsts e 0 → 1 ≤ slice_index_or marks.seconds f 0 → IsApart marks c (d ∷ rest) → ⊥
+not_both : (marks : ElementMarks) (c d e f : ℕ) (rest : List ℕ) → c ≡ e → d ≡ f → 1 ≤ slice_index_or marks.firsts e 0 → 1 ≤ pair_mark marks e f → IsApart marks c (d ∷ rest) → ⊥
 not_both marks c d e f rest same next_same marked next_marked apart =
     let here = ap (λ (n : ℕ). slice_index_or marks.firsts n 0) same in
-    let next = ap (λ (n : ℕ). slice_index_or marks.seconds n 0) next_same in
+    let next = ap (λ (n : ℕ). pair_mark marks n d) same ∙ ap (pair_mark marks e) next_same in
     ⊎_elim
     (λ (none : slice_index_or marks.firsts c 0 ≡ 0). absurd (omega (arith, none, here, marked)))
-    (λ (low : (slice_index_or marks.firsts c 0 < 2) × (slice_index_or marks.seconds d 0 ≡ 0)). absurd (omega (arith, low.1, next, next_marked)))
+    (λ (low : (slice_index_or marks.firsts c 0 < 2) × (pair_mark marks c d ≡ 0)). absurd (omega (arith, low.1, next, next_marked)))
     apart
 
 begins_marked : (marks : ElementMarks) (c : ℕ) (rest string : List ℕ) → IsApart marks c rest → AreMarked marks string → begins_with (c ∷ rest) string ≡ false
@@ -69,7 +69,7 @@ begins_marked marks c (d ∷ rest) (e ∷ f ∷ more) apart marked =
     by_test (λ (b : Bool). (b && ((d == f) && begins_with rest more)) ≡ false) (c == e)
     (λ on.
     by_test (λ (b : Bool). (true && (b && begins_with rest more)) ≡ false) (d == f)
-    (λ both. absurd (not_both marks c d e f rest (eqb-true c e on) (eqb-true d f both) marked.0 marked.1 apart))
+    (λ both. absurd (not_both marks c d e f rest (eqb-true c e on) (eqb-true d f both) marked.0 (omega (arith, marked.1)) apart))
     (λ off. refl))
     (λ off. refl)
 
@@ -81,16 +81,19 @@ apart_other marks c rest (declaration.Element name text) apart told = begins_mar
 
 -- marks that are raised
 pub kept_marks : (marks : ElementMarks) → KeepMarks marks marks
-kept_marks marks = record { firsts = λ c. omega arith; seconds = λ c. omega arith }
+kept_marks marks = record { firsts = λ c. omega arith; pairs = λ place. omega arith }
 
 -- a single character is the whole string
 pub whole_marked : (marks : ElementMarks) (c : ℕ) (text rest : List ℕ) → text ≡ c ∷ rest → rest ≡ [] → 2 ≤ slice_index_or marks.firsts c 0 → AreMarked marks text
 whole_marked marks c text rest is none marked = subst (AreMarked marks) (sym (is ∙ ap (λ (l : List ℕ). c ∷ l) none)) marked
 
--- of others two characters are marked
-pub both_marked : (marks : ElementMarks) (c d : ℕ) (text rest more : List ℕ) → text ≡ c ∷ rest → rest ≡ d ∷ more → 1 ≤ slice_index_or marks.firsts c 0 → 1 ≤ slice_index_or marks.seconds d 0
-    → AreMarked marks text
-both_marked marks c d text rest more is next first second = subst (AreMarked marks) (sym (is ∙ ap (λ (l : List ℕ). c ∷ l) next)) (first, second)
+-- of others two characters are marked, with how many the string has
+pub both_marked : (marks : ElementMarks) (c d count : ℕ) (text rest more : List ℕ) → text ≡ c ∷ rest → rest ≡ d ∷ more → count ≡ length text → 1 ≤ slice_index_or marks.firsts c 0
+    → count ≤ pair_mark marks c d → AreMarked marks text
+both_marked marks c d count text rest more is next counted first pair =
+    let whole : text ≡ c ∷ d ∷ more = is ∙ ap (λ (l : List ℕ). c ∷ l) next in
+    let long : length text ≡ length (c ∷ d ∷ more) = ap length whole in
+    subst (AreMarked marks) (sym whole) (first, omega (arith, pair, counted, long))
 
 -- no element of all these begins there
 none_of_all : (table : Collation) (marks : ElementMarks) (c : ℕ) (rest : List ℕ) → IsApart marks c rest → (ds : List Declaration) → TellOfAll marks ds
@@ -102,17 +105,12 @@ none_of_all table marks c rest apart (d ∷ ds) told = none_of_more table c rest
 pub stands_apart : (table : Collation) (marks : ElementMarks) → AreMarks table marks → (c : ℕ) (rest : List ℕ) → IsApart marks c rest → StandsAlone table c rest
 stands_apart table marks are c rest apart = none_of_all table marks c rest apart table.declared are
 
--- and so do all of a text
-pub all_alone : (table : Collation) (marks : ElementMarks) → AreMarks table marks → (text : List ℕ) → AreAllApart marks text → AreAlone table text
-all_alone table marks are [] apart = tt
-all_alone table marks are (c ∷ rest) apart = (stands_apart table marks are c rest apart.0, all_alone table marks are rest apart.1)
-
 -- Marks that are raised tell what they told.
 
 marked_still : (old new : ElementMarks) → KeepMarks old new → (string : List ℕ) → AreMarked old string → AreMarked new string
 marked_still old new kept [] marked = absurd marked
 marked_still old new kept (c ∷ []) marked = omega (arith, marked, kept.firsts c)
-marked_still old new kept (c ∷ d ∷ rest) marked = (omega (arith, marked.0, kept.firsts c), omega (arith, marked.1, kept.seconds d))
+marked_still old new kept (c ∷ d ∷ rest) marked = (omega (arith, marked.0, kept.firsts c), omega (arith, marked.1, kept.pairs (place_of_pair c d)))
 
 pub tells_still : (old new : ElementMarks) → KeepMarks old new → (d : Declaration) → TellsOf old d → TellsOf new d
 tells_still old new kept (declaration.Symbol name) told = tt
@@ -120,4 +118,4 @@ tells_still old new kept (declaration.Equivalence name symbol) told = tt
 tells_still old new kept (declaration.Element name text) told = marked_still old new kept text told
 
 pub kept_on : (old new last : ElementMarks) → KeepMarks old new → KeepMarks new last → KeepMarks old last
-kept_on old new last first second = record { firsts = λ c. omega (arith, first.firsts c, second.firsts c); seconds = λ c. omega (arith, first.seconds c, second.seconds c) }
+kept_on old new last first second = record { firsts = λ c. omega (arith, first.firsts c, second.firsts c); pairs = λ place. omega (arith, first.pairs place, second.pairs place) }

@@ -16,6 +16,7 @@ use Rattle.coll_key.specs.LevelList.{items_of, level_list, listed}
 use Rattle.coll_key.specs.TextOrder.{list_order}
 use Rattle.coll_letters.specs.ElementMarks.{AreMarks}
 use Rattle.coll_letters.specs.FirstNumbers.{AreFirstNumbers}
+use Rattle.coll_letters.specs.StringRows.{AreStringRows}
 use Rattle.coll_letters.specs.declared.letter_weights.FirstLetter.{FirstLetter}
 use Rattle.coll_letters.specs.declared.letter_weights.LetterRow.{LetterRow}
 use Rattle.coll_letters.specs.declared.letter_weights.LetterStep.{LetterStep}
@@ -30,9 +31,10 @@ pub record IsRowOf (table : Collation) (weights : WeightsValue) (c : ℕ) (row :
 abbrev pub IsLetterRow : Collation → WeightsValue → LetterRow → Type 0
 IsLetterRow table weights entry = IsRowOf table weights entry.letter entry.row
 
--- the rows that are kept are those of their characters, and so are the numbers of the first level; and the marks are those of the table
+-- the rows that are kept are those of their characters and strings, and so are the numbers of the first level; and the marks are those of the table
 pub record AreLetterWeights (table : Collation) (weights : LetterWeights) : Type 0 where
   pub rows : All (IsLetterRow table weights.made.weights) weights.rows.items
+  pub strings : AreStringRows table weights.made.weights weights.strings
   pub firsts : AreFirstNumbers table weights.firsts
   pub marks : AreMarks table weights.marks
 
@@ -40,7 +42,7 @@ pub record AreLetterWeights (table : Collation) (weights : LetterWeights) : Type
 abbrev pub text_numbers : Collation → (level : ℕ) → List ℕ → List (List ℕ)
 text_numbers table level text = map (numbers_at table level) (elements_of table text)
 
--- a text begins with a character that has this row, and goes on with the rest
+-- a text begins with an element that has this row, and goes on with the rest
 pub record IsFirstLetter (table : Collation) (weights : WeightsValue) (text : List ℕ) (first : FirstLetter) : Type 0 where
   pub numbers : (level : ℕ) → level < length table.rules
       → text_numbers table level text ≡ row_numbers weights level first.row ∷ text_numbers table level (chars first.rest.now)

@@ -3,5 +3,8 @@ pub mod BackNumbers
 pub mod ElementMarks
 pub mod FirstNumbers
 pub mod FirstOrders
+pub mod FirstPieces
 pub mod LetterWeights
 pub mod LevelNumbers
+pub mod PieceRows
+pub mod StringRows

@@ -1,19 +1,21 @@
 //! Where a collating element may stand in a text, by one look at a character and the next one.
 //!
-//! Of the strings of all elements that are declared the first two characters are marked. At a character that is marked as no first one,
-//! or that isn't followed by one that is marked as second, no element begins. One that is marked as a whole string begins one always. So
-//! most words that hold a character with which an element begins are still known to be their characters alone, since hardly any holds
-//! what follows it in the element. Where both the character and the next one are marked, an element may begin or not (`is_apart`), and
-//! the marks tell no more: who asked then finds the elements of the text (`longest`), or compares by whole keys.
+//! Of the strings of all elements that are declared the first character is marked, and the first two as a pair, with how many characters
+//! the string has. At a character that is marked as no first one, or that makes no marked pair with the next one, no element begins. One
+//! that is marked as a whole string begins one always. So most words that hold a character with which an element begins are still known
+//! to be their characters alone, since hardly any holds what follows it in the element. Where the pair is marked an element may begin or
+//! not (`is_apart`), and has no more characters than its mark says (`most_at`): who asked then looks the text up in the table
+//! (`first_pieces`). Pairs of which the marks have one place share it, and the greatest mark: a look-up more, and no other answer.
 //!
 //! The simple form is `longest`, which looks the text up; `AreMarks` joins both.
 
-ghost use Rattle.std.specs.Prelude.{◌≡◌, ◌<◌, ◌≤◌, ℕ, chars, length, true, slice_index_or, OnOk, IfOk};
+ghost use Rattle.std.specs.Prelude.{◌≡◌, ◌<◌, ◌≤◌, ℕ, suc, chars, length, true, slice_index_or, OnOk, IfOk};
 ghost use Rattle.coll_nodes.specs.TableLayout.{collation};
 ghost use Rattle.coll_nodes.specs.WalkItems.{declared_by};
 ghost use Rattle.coll_elements.specs.TableElements.{HasString};
-ghost use Rattle.coll_letters.specs.ElementMarks.{AreMarks, AreAllApart, AreMarked, GoesOnOther, GoesOnOtherAt};
-ghost use Rattle.coll_letters.specs.ElementMarks.{IsAloneAt, IsApart, IsSameAt, KeepMarks, TellsOf};
+ghost use Rattle.coll_letters.specs.ElementMarks.{AreMarks, AreMarked, GoesOnOther, GoesOnOtherAt, IsAloneAt, IsApart, IsLeftAt};
+ghost use Rattle.coll_letters.specs.ElementMarks.{IsMostAt, IsSameAt, IsSureAt, KeepMarks, TellsOf, place_of_pair};
+ghost use Rattle.coll_letters.specs.ElementMarks.{pair_mark as mark_of_pair};
 
 use crate::letter_weights::split_first_char;
 use coll_elements::CodePoints;
@@ -30,11 +32,15 @@ const WHOLE: u32 = 2;
 // The first byte that is no character by itself.
 const ASCII_END: u8 = 128;
 
-/// Which characters stand first, and which second, in the strings of the elements of a table.
+// How many places the marks of pairs have, once there is one.
+const PAIRS: usize = 4_096;
+
+/// Which characters stand first in the strings of the elements of a table, which two, and how many characters these strings have.
 #[derive(Drop)]
 pub struct ElementMarks {
     firsts: CodePoints,
-    seconds: CodePoints,
+    // The marks of pairs, by their places.
+    pairs: Vec<usize>,
     // How many elements are declared.
     count: usize,
 }
@@ -47,7 +53,7 @@ impl ElementMarks {
         table.lemma_well_formed();
         let mut marks = ElementMarks {
             firsts: CodePoints::new(alloc),
-            seconds: CodePoints::new(alloc),
+            pairs: Vec::new(alloc),
             count: 0,
         };
         let mut left = table.declared();
@@ -82,16 +88,37 @@ impl ElementMarks {
         if mark >= WHOLE {
             return false;
         }
-        self.goes_on_other(rest)
+        self.goes_on_other(letter, rest)
     }
 
-    // Whether a text goes on with a character that stands second in no element, or not at all.
-    fn goes_on_other(&self, rest: &str) -> bool
-        ensures { result ≡ true → GoesOnOther self.now (chars rest.now) }
+    // Whether a character makes no marked pair with what follows it.
+    fn goes_on_other(&self, letter: char, rest: &str) -> bool
+        ensures { result ≡ true → GoesOnOther self.now letter (chars rest.now) }
     {
         match split_first_char(rest) {
-            Some((next, _)) => self.seconds.get(next) == 0,
+            Some((next, _)) => self.pair_mark(letter, next) == 0,
             None => true,
+        }
+    }
+
+    /// The most characters that the string of an element has with which a character and the text behind it begin, and at least 1.
+    pub fn most_at(&self, letter: char, rest: &str) -> usize
+        ensures { IsMostAt self.now letter (chars rest.now) result }
+    {
+        match split_first_char(rest) {
+            Some((next, _)) => self.pair_mark(letter, next).max(1),
+            None => 1,
+        }
+    }
+
+    // The mark of two characters.
+    #[inline(always)]
+    fn pair_mark(&self, first: char, second: char) -> usize
+        ensures { result ≡ mark_of_pair self.now first second }
+    {
+        match self.pairs.get(pair_place(first, second)) {
+            Some(mark) => *mark,
+            None => 0,
         }
     }
 
@@ -147,7 +174,8 @@ impl ElementMarks {
         self.goes_on_other_at(bytes, place)
     }
 
-    // Whether a text goes on behind a place with a byte that is a character by itself and stands second in no element, or not at all.
+    // Whether a text goes on behind a place with a byte that is a character by itself and makes no marked pair with the one before it, or
+    // not at all.
     #[inline(never)]
     fn goes_on_other_at(&self, bytes: &[u8], place: usize) -> bool
         requires { place < length bytes.now }
@@ -161,21 +189,57 @@ impl ElementMarks {
         if next >= ASCII_END {
             return false;
         }
-        self.seconds.get(char::from(next)) == 0
+        self.pair_mark(char::from(bytes[place]), char::from(next)) == 0
     }
 
-    /// Whether no element begins anywhere in a text.
-    pub fn are_all_apart(&self, text: &str) -> bool
-        ensures { result ≡ true → AreAllApart self.now (chars text.now) }
+    /// How many bytes two texts both begin with that are characters by themselves, where each element that begins with one of them in
+    /// either has ended behind these bytes, so that what is left of both tells their order.
+    pub(crate) fn sure_front(&self, text: &str, other: &str) -> usize
+        ensures { (k : ℕ) → k < result → IsSureAt self.now text.now other.now result k }
     {
-        let mut left = text;
-        'letters: while let Some((letter, rest)) = split_first_char(left) {
-            if !self.is_apart(letter, rest) {
-                return false;
+        let bytes = text.as_bytes();
+        let others = other.as_bytes();
+        let mut front = 0;
+        let mut left: usize = 0;
+        for place in 0..bytes.len().min(others.len()) {
+            if bytes[place] != others[place] || bytes[place] >= ASCII_END {
+                return front;
             }
-            left = rest;
+            left = left
+                .saturating_sub(1)
+                .max(self.left_at(bytes, others, place));
+            if left == 0 {
+                front = place + 1;
+            }
         }
-        true
+        front
+    }
+
+    // How many bytes behind a place an element that begins there ends at most, where two texts have the same byte at the place.
+    #[inline(always)]
+    fn left_at(&self, text: &[u8], other: &[u8], place: usize) -> usize
+        requires within { place < length text.now }
+        requires other_within { place < length other.now }
+        ensures { IsLeftAt self.now text.now other.now place result }
+    {
+        if self.is_apart_at(text, place) && self.is_apart_at(other, place) {
+            return 0;
+        }
+        self.pair_mark(char::from(text[place]), char::from(next_byte(text, place)))
+            .saturating_sub(1)
+            .max(1)
+    }
+}
+
+// The byte behind a place, or 0.
+#[inline(always)]
+fn next_byte(bytes: &[u8], place: usize) -> u8
+    requires { place < length bytes.now }
+    ensures { result ≡ slice_index_or bytes.now (suc place) 0 }
+{
+    match bytes.get(place + 1) {
+        Some(byte) => *byte,
+        None => 0,
     }
 }
 
@@ -208,7 +272,41 @@ fn mark_string(marks: &mut ElementMarks, text: &str) -> Result<(), AllocError>
         return raise(&mut marks.firsts, first, WHOLE);
     };
     raise(&mut marks.firsts, first, BEGINS)?;
-    raise(&mut marks.seconds, second, BEGINS)
+    let count = text.chars().count();
+    raise_pair(&mut marks.pairs, pair_place(first, second), count)?;
+    Ok(())
+}
+
+// The place of the mark of two characters.
+#[inline(always)]
+fn pair_place(first: char, second: char) -> usize
+    ensures place { result ≡ place_of_pair first second }
+    ensures within { result < 4_096 }
+{
+    (first as usize * 61 + second as usize) % PAIRS
+}
+
+// Gives a pair a mark, unless it has a greater one.
+fn raise_pair(pairs: &mut Vec<usize>, place: usize, mark: usize) -> Result<(), AllocError>
+    requires { place < 4_096 }
+    ensures least { OnOk result (mark ≤ slice_index_or pairs.new.items place 0) }
+    ensures kept { OnOk result ((k : ℕ) → slice_index_or pairs.old.items k 0 ≤ slice_index_or pairs.new.items k 0) }
+{
+    make_room(pairs, PAIRS)?;
+    pairs[place] = pairs[place].max(mark);
+    Ok(())
+}
+
+// Makes a list so long, with 0 for what is new.
+fn make_room(pairs: &mut Vec<usize>, count: usize) -> Result<(), AllocError>
+    ensures long { OnOk result (count ≤ length pairs.new.items) }
+    ensures same { OnOk result ((k : ℕ) → slice_index_or pairs.new.items k 0 ≡ slice_index_or pairs.old.items k 0) }
+{
+    if count <= pairs.len() {
+        return Ok(());
+    }
+    pairs.resize(count, 0)?;
+    Ok(())
 }
 
 // Gives a character a mark, unless it has a greater one.

@@ -1,7 +1,7 @@
-//! The numbers of a text at a level that is looked at from the front, one after another, by the rows of its characters.
+//! The numbers of a text at a level that is looked at from the front, one after another, by the rows of its elements.
 //!
 //! Where single numbers don't tell the order of two texts, since an ignored weight stands against another one, or against the end of a
-//! text, and positions tell, or a character has several numbers, the level is gone through so along both. Nothing is kept of them, and
+//! text, and positions tell, or an element has several numbers or more than one character, the level is gone through so along both. Nothing is kept of them, and
 //! it takes no memory: what is left of a text is a list of items (`specs/LevelNumbers.antt`). The simple form compares keys; the clause
 //! `order_behind` of `order_by_numbers` joins both.
 
@@ -49,12 +49,12 @@ pub(crate) enum NextNumber<'a> {
     Found(PlacedNumber, LevelRest<'a>),
     /// No number: the text has ended.
     Ended,
-    /// It isn't known, since a character has no row, or an element may begin with it.
+    /// It isn't known, since a character or an element has no row.
     Unknown,
 }
 
-/// How a level that is looked at from the front orders two texts, unless one of them has a character without a row, may hold an
-/// element, or is too long. It takes no memory.
+/// How a level that is looked at from the front orders two texts, unless one of them has a character or an element without a row, or is
+/// too long. It takes no memory.
 #[inline(never)]
 pub(crate) fn order_by_numbers(
     letters: &LetterWeights,

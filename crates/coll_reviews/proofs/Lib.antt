@@ -1,6 +1,5 @@
 pub mod DeclaredLemmas
 pub mod KeptLemmas
-pub mod LetterOrders
 pub mod ListedKeyLemmas
 pub mod ListedLemmas
 pub mod MarkedLemmas

@@ -1,5 +1,5 @@
 -- Where a review stands, as the code keeps it, and where statements lead it.
-use Rattle.std.specs.Prelude.{◌≡◌, ◌⊎◌, ◌<◌, ◌≤◌, ◌==◌, ℕ, List, ◌++◌, length, filter, map, All, Option, Some, Result, Ok, Err}
+use Rattle.std.specs.Prelude.{◌≡◌, ◌⊎◌, ℕ, List, ◌++◌, length, map, Option, Some, Result, Ok, Err}
 use Rattle.std.specs.Io.KnownBytes.{Appends}
 use Rattle.coll_devices.specs.Devices.{AppendsPrefix}
 use Rattle.coll_nodes.specs.Table.{Collation}

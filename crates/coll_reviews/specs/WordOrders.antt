@@ -1,13 +1,10 @@
 -- What words are compared by.
 use Rattle.std.specs.Prelude.{◌≡◌, IfSome, chars, false, string_bytes}
 use Rattle.coll_nodes.specs.NodeNumbers.{AreNumbersOf}
-use Rattle.coll_nodes.specs.Table.{Collation}
 use Rattle.coll_nodes.specs.TableLayout.{TableValue, collation}
 use Rattle.coll_ranks.specs.Ranks.{AreRanksOf}
 use Rattle.coll_key.specs.KeyLimits.{is_too_long}
-use Rattle.coll_letters.specs.ElementMarks.{AreAllApart, AreAlone}
 use Rattle.coll_letters.specs.LetterWeights.{AreLetterWeights}
-use Rattle.coll_letters.specs.declared.element_marks.ElementMarks.{ElementMarks}
 use Rattle.coll_reviews.specs.declared.letters.Letters.{Letters}
 use Rattle.coll_reviews.specs.declared.word_orders.WordOrder.{WordOrder}
 use Rattle.coll_reviews.specs.declared.word_orders.WordOrder.TheVariants.{ByRanks, ByLetters}
@@ -19,12 +16,6 @@ Serves (ByLetters letters) table =
     AreLetterWeights (collation table) letters.weights × AreNumbersOf letters.numbers.now table.layout
     × IfSome letters.ranks (λ ranks. AreRanksOf ranks (collation table))
 
--- by the marks the characters, one behind another, hold no element, and they are few
-pub record AreApart (marks : ElementMarks) (letters : Letters) : Type 0 where
-  pub apart : AreAllApart marks (chars (string_bytes letters.text))
-  pub few : is_too_long (chars (string_bytes letters.text)) ≡ false
-
--- the characters, one behind another, hold no element of a table, and they are few
-pub record MayServe (table : Collation) (letters : Letters) : Type 0 where
-  pub alone : AreAlone table (chars (string_bytes letters.text))
-  pub few : is_too_long (chars (string_bytes letters.text)) ≡ false
+-- the characters and strings, one behind another, are a text that may have a key
+abbrev pub MayServe : Letters → Type 0
+MayServe letters = is_too_long (chars (string_bytes letters.text)) ≡ false

@@ -1,30 +1,32 @@
-//! The characters that words have, each once.
+//! What words are compared by: their characters, and the strings in them that may be collating elements, each once.
 //!
 //! They are gathered once for a list of words, since no statement gives a word another character, and anew where elements were declared,
-//! eight times in all. Where the words that may hold a collating element are long together, a word is long by itself, or the characters
-//! are many, words are not compared by their characters: a pair that these leave undecided takes time by the length of both words,
-//! whatever they begin with. What is kept here is looked at again wherever it is used, so no contract speaks of it but of which
-//! characters are there.
+//! eight times in all. Where a word is long by itself, where elements may begin at many of its places, or where characters and strings are
+//! many, words are not compared by them: a pair that they leave undecided takes time by the length of both words, whatever they begin with.
+//! What is kept here is looked at again wherever it is used, so no contract speaks of it.
 
 use crate::listed_words::ListedWord;
 use coll_elements::CodePoints;
-use coll_letters::{ElementMarks, split_first_char};
+use coll_letters::{ElementMarks, PieceText, TextPieces};
 use std::alloc::{AllocError, Global};
 
 // A word of more bytes is not compared by its characters.
 const MOST_WORD_BYTES: usize = 128;
 
+// Nor is one with more strings that may be elements.
+const MOST_WORD_LOOKS: usize = 64;
+
 // How often the characters of a list are gathered at most: a delta file may declare an element before each other statement.
 const MOST_TIMES: u32 = 8;
 
-/// Characters, each once, and the place of each.
+/// The characters and strings of words, each once, and the place of each character.
 #[derive(Drop)]
 pub(crate) struct Letters {
-    /// The characters, one behind another.
+    /// The characters and strings, one behind another.
     pub text: String,
     /// Of each character its place among them, from 1.
     pub places: CodePoints,
-    /// Whether no character was left out, no word is long, and those that may hold an element are few.
+    /// Whether nothing was left out, and no word is long.
     pub all: bool,
     /// Whether a word may hold an element.
     pub joined: bool,
@@ -32,75 +34,44 @@ pub(crate) struct Letters {
     pub elements: usize,
     /// How often they were gathered.
     pub times: u32,
-    // How many they are.
-    count: u32,
 }
 
 impl Letters {
-    /// The characters of the words of a list, no more than so many. The marks tell where an element may stand, and the words that may
-    /// hold one have no more bytes together than are given. They were gathered so often before.
+    /// The characters and strings of the words of a list, no more than so many. The marks tell where an element may stand, and so many
+    /// strings may be looked at there. They were gathered so often before.
     pub fn of(
         alloc: Global,
         list: &[ListedWord<'_>],
         marks: &ElementMarks,
         most: usize,
-        most_joined: usize,
+        looks: usize,
         times: u32,
     ) -> Result<Letters, AllocError> {
-        let mut letters = Letters {
-            text: String::new(alloc),
-            places: CodePoints::new(alloc),
-            all: times < MOST_TIMES,
-            joined: false,
+        let mut pieces = TextPieces::new(alloc, most, looks, MOST_WORD_LOOKS);
+        let all = times < MOST_TIMES && add_words(&mut pieces, list, marks)?;
+        let joined = pieces.are_joined();
+        let PieceText { text, places } = pieces.into_text()?;
+        Ok(Letters {
+            text,
+            places,
+            all,
+            joined,
             elements: marks.count(),
             times: times.saturating_add(1),
-            count: 0,
-        };
-        let mut left = most_joined;
-        for listed in list {
-            let word = listed.text;
-            if !letters.all || word.len() > MOST_WORD_BYTES {
-                letters.all = false;
-                return Ok(letters);
-            }
-            if letters.add_all(word, marks, most)? {
-                letters.joined = true;
-                letters.all = letters.all && word.len() <= left;
-                left = left.saturating_sub(word.len());
-            }
-        }
-        Ok(letters)
+        })
     }
+}
 
-    // Adds the characters of a word, and tells whether it may hold an element.
-    fn add_all(
-        &mut self,
-        word: &str,
-        marks: &ElementMarks,
-        most: usize,
-    ) -> Result<bool, AllocError> {
-        let mut joined = false;
-        let mut left = word;
-        'letters: while let Some((letter, rest)) = split_first_char(left) {
-            if self.places.get(letter) == 0 {
-                self.add(letter, most)?;
-            }
-            if !marks.is_apart(letter, rest) {
-                joined = true;
-            }
-            left = rest;
+// Adds the pieces of words, up to one that is long, or for which there is no room, and tells whether there was none.
+fn add_words(
+    pieces: &mut TextPieces,
+    list: &[ListedWord<'_>],
+    marks: &ElementMarks,
+) -> Result<bool, AllocError> {
+    for listed in list {
+        if listed.text.len() > MOST_WORD_BYTES || !pieces.add(listed.text, marks)? {
+            return Ok(false);
         }
-        Ok(joined)
     }
-
-    // Adds a character that isn't there.
-    fn add(&mut self, letter: char, most: usize) -> Result<(), AllocError> {
-        if self.count as usize >= most {
-            self.all = false;
-            return Ok(());
-        }
-        self.count = self.count.saturating_add(1);
-        self.places.set(letter, self.count)?;
-        self.text.push(letter)
-    }
+    Ok(true)
 }

@@ -7,9 +7,8 @@
 //! - `numbered_words`: the words that are kept (`KeptWords`); `listed_words`: the list of them that is sorted anew (`ListedWords`), by
 //!   `staying_words` and `moved_words` as far as its words move (`MovedWords`), by keys that `listed_keys` make (`ListedKeys`), and behind
 //!   a guess of `word_fronts` where many do;
-//! - `word_orders`: what words are compared by (`WordOrders`): where it serves by what their `letters` weigh (`coll_letters`), as far as
-//!   no element stands among them, which `marked_tables` keep beside the table; a few that may hold one go by their keys, and by ranks
-//!   behind that;
+//! - `word_orders`: what words are compared by (`WordOrders`): where it serves by what their `letters`, and the elements in them, weigh
+//!   (`coll_letters`); `marked_tables` keep beside the table where elements may stand;
 //! - `reviews`: where a review stands (`Reviews`, `ReviewSteps`), and which statements move no word (`Declaring`); `review_lines`: what is
 //!   told of a statement (`ReviewLines`), which is kept by `kept_bytes`.
 #![tactic(auto)]

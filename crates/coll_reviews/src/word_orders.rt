@@ -1,9 +1,9 @@
 //! What words are compared by behind a statement.
 //!
-//! Where words are their characters, the rows of these serve, which are few, and the table's entries are only numbered anew. Where
-//! they aren't, the ranks of the whole table are made. In between, few words may hold an element: those are compared by keys, for which
-//! their texts are looked up in the table one by one, until these took about a tenth of the time that ranks take. Then the ranks are
-//! made after all, once for the statement, and tell what the rows don't.
+//! Where the words have few characters, and few strings in them may be collating elements, the rows of these serve, and the table's entries
+//! are only numbered anew. Where they aren't few, the ranks of the whole table are made. What the rows don't tell is told by keys, for which
+//! the texts are looked up in the table one by one, until these took about a tenth of the time that ranks take. Then the ranks are made
+//! after all, once for the statement, and tell it.
 
 ghost use Rattle.std.specs.Prelude.{◌≡◌, chars, true, IfOk, IfSome};
 ghost use Rattle.std.specs.List.Sorted.{IsPermutation};
@@ -12,7 +12,7 @@ ghost use Rattle.coll_key.specs.SortKey.{key_of};
 ghost use Rattle.coll_key.specs.TextOrder.{order_of};
 ghost use Rattle.coll_letters.specs.ElementMarks.{AreMarks};
 ghost use Rattle.coll_letters.specs.FirstOrders.{IsSeen};
-ghost use Rattle.coll_reviews.specs.WordOrders.{AreApart, MayServe, Serves};
+ghost use Rattle.coll_reviews.specs.WordOrders.{MayServe, Serves};
 ghost use Rattle.coll_reviews.specs.declared.word_orders.WordOrder.TheVariants.{ByLetters};
 
 use crate::letters::Letters;
@@ -28,12 +28,12 @@ use coll_table::Table;
 use std::alloc::{AllocError, Global};
 use std::cmp::Ordering;
 
-// For so many entries of the table the words that may hold an element have one byte together. Where these are longer, ranks serve from the
-// first comparison on, since keys are made of all of them where many words move.
-const ENTRIES_A_JOINED_BYTE: usize = 32;
+// For each word and each entry of the table so many strings of words may be looked at where elements may begin. Where there are more, ranks
+// serve, since each of these is looked up behind each statement.
+const LOOKS_A_WORD: usize = 4;
 
 // For so many entries of the table one number of a key, or one look-up of what a byte of its word may begin, is paid for behind a
-// statement, where words are compared by keys since one may hold an element. All of them take about a tenth of the time that ranks take.
+// statement, where words are compared by keys since the rows don't tell. All of them take about a tenth of the time that ranks take.
 const ENTRIES_A_KEY_NUMBER: usize = 4;
 
 /// What is kept for a list of words from statement to statement.
@@ -47,7 +47,7 @@ pub(crate) struct Looks {
     made_ranks: u32,
 }
 
-/// The rows of characters, and what serves a word that has another one.
+/// The rows of characters and strings, and what serves where these don't.
 #[derive(Drop)]
 pub(crate) struct LetterOrder<'a> {
     /// The rows.
@@ -58,7 +58,7 @@ pub(crate) struct LetterOrder<'a> {
     pub joined: bool,
     /// The places of the table's entries.
     pub numbers: &'a EntryNumbers,
-    /// How many numbers and look-ups are still paid for in keys of words that may hold an element.
+    /// How many numbers and look-ups are still paid for in keys of words of which the rows don't tell the order.
     pub left: usize,
     /// The ranks of the whole table, once nothing was left.
     pub ranks: Option<Ranks>,
@@ -69,7 +69,7 @@ pub(crate) struct LetterOrder<'a> {
 pub(crate) enum WordOrder<'a> {
     /// The ranks of the whole table.
     ByRanks(Ranks),
-    /// The rows of the characters of the words.
+    /// The rows of the characters of the words, and of strings in them.
     ByLetters(LetterOrder<'a>),
 }
 
@@ -155,7 +155,7 @@ fn letter_order<'a>(
     numbers: &'a mut EntryNumbers,
     left: usize,
 ) -> Result<LetterOrder<'a>, AllocError>
-    requires letters { MayServe (collation table.now) letters.now }
+    requires letters { MayServe letters.now }
     requires marks { AreMarks (collation table.now) marks }
     ensures { IfOk result (λ order. Serves (ByLetters order) table.now) }
 {
@@ -171,8 +171,8 @@ fn letter_order<'a>(
     })
 }
 
-// The marks of a table, where words are compared by their characters in it. These are gathered where they weren't, or where another
-// element was declared since. Marks that are kept are taken, and kept still where they don't serve.
+// The marks of a table, where words are compared by their characters and strings in it. These are gathered where they weren't, or where
+// another element was declared since. Marks that are kept are taken, and kept still where they don't serve.
 fn look_at_letters(
     alloc: Global,
     table: &Table,
@@ -182,7 +182,7 @@ fn look_at_letters(
 ) -> Result<Option<ElementMarks>, AllocError>
     requires { IfSome marks.old (AreMarks (collation table.now)) }
     ensures serve { IfOk result (λ found. IfSome found (λ marks.
-        AreMarks (collation table.now) marks × IfSome kept.new (MayServe (collation table.now)))) }
+        AreMarks (collation table.now) marks × IfSome kept.new MayServe)) }
     ensures marks { IfSome marks.new (AreMarks (collation table.now)) }
 {
     if matches!(kept, Some(letters) if !letters.all) {
@@ -190,7 +190,7 @@ fn look_at_letters(
     }
     let taken = taken_marks(alloc, table, marks)?;
     gather(alloc, table, kept, &taken, list)?;
-    if are_apart(kept, &taken) {
+    if may_serve(kept) {
         return Ok(Some(taken));
     }
     drop(marks.replace(taken));
@@ -216,7 +216,7 @@ fn taken_marks(
     }
 }
 
-// Gathers the characters of words where they weren't, or where another element was declared since.
+// Gathers the characters and strings of words where they weren't, or where another element was declared since.
 fn gather(
     alloc: Global,
     table: &Table,
@@ -229,27 +229,23 @@ fn gather(
         Some(letters) => letters.times,
         None => 0,
     };
-    let most_joined = table.len() / ENTRIES_A_JOINED_BYTE;
-    let letters = Letters::of(alloc, list, marks, most_letters(table), most_joined, times)?;
+    let looks = table
+        .len()
+        .saturating_add(list.len())
+        .saturating_mul(LOOKS_A_WORD);
+    let letters = Letters::of(alloc, list, marks, most_letters(table), looks, times)?;
     drop(kept.replace(letters));
     Ok(())
 }
 
-// Whether characters were gathered, none was left out, and they hold no element by these marks.
-fn are_apart(kept: &Option<Letters>, marks: &ElementMarks) -> bool
-    ensures { result ≡ true → IfSome kept.now (AreApart marks.now) }
+// Whether what words are compared by was gathered, nothing was left out, and it is no longer than a text may be.
+fn may_serve(kept: &Option<Letters>) -> bool
+    ensures { result ≡ true → IfSome kept.now MayServe }
 {
-    let Some(letters) = kept else {
-        return false;
-    };
-    if !letters.all {
-        return false;
+    match kept {
+        Some(letters) => letters.all && !is_too_long(letters.text.as_str()),
+        None => false,
     }
-    let text = letters.text.as_str();
-    if is_too_long(text) {
-        return false;
-    }
-    marks.are_all_apart(text)
 }
 
 /// The order of two words. What single numbers tell is told along the caller's own lines, before anything that may be refused.
@@ -328,7 +324,7 @@ fn order_by_new_ranks(
     order
 }
 
-// The order of two words of which one may hold an element, by their keys, which are paid for.
+// The order of two words that the rows don't tell, by their keys, which are paid for.
 #[inline(never)]
 fn order_by_keys(
     alloc: Global,
@@ -399,7 +395,7 @@ pub(crate) fn key_of_word(
     }
 }
 
-// The same, by the rows of characters, unless the word may hold an element.
+// The same, by the rows of characters and strings, where these serve.
 fn key_by_letters(
     alloc: Global,
     table: &Table,

@@ -1,5 +1,5 @@
 -- What characters weigh makes the keys of texts.
-use Rattle.std.proofs.Common.{◌≡◌, ℕ, ◌<◌, true, List, [], ◌∷◌, ◌++◌, length, map, All, chars, string_bytes, refl, sym, ap, subst, ◌∙◌, append-nil, arith}
+use Rattle.std.proofs.Common.{◌≡◌, ℕ, ◌<◌, true, List, [], ◌∷◌, ◌++◌, length, map, All, chars, refl, sym, ap, subst, ◌∙◌, append-nil, arith}
 use Rattle.std.specs.List.{flat_map}
 use Rattle.std.proofs.lemmas.List.Elements.{All-append, All-cons, All-nil}
 use Rattle.coll_syntax.specs.declared.identifiers.Id.{Id}
@@ -11,22 +11,15 @@ use Rattle.coll_ranks.specs.LevelWeights.{row_numbers}
 use Rattle.coll_ranks.specs.RankLists.{WeightsValue}
 use Rattle.coll_ranks.specs.WeightNumbers.{numbers_at}
 use Rattle.coll_ranks.specs.declared.text_elements.ElementRow.{ElementRow}
-use Rattle.coll_letters.specs.ElementMarks.{AreMarks, StandsAlone}
+use Rattle.coll_letters.specs.ElementMarks.{StandsAlone}
 use Rattle.coll_words.specs.FirstKeys.{begins_plainly, packed_first_key}
-use Rattle.coll_words.specs.LetterKeys.{AreApartIn, BeginsWithKept, IsLetterKey, ServeTexts}
+use Rattle.coll_words.specs.LetterKeys.{BeginsWithKept, IsLetterKey}
 use Rattle.coll_letters.specs.LetterWeights.{IsRowOf}
 use Rattle.coll_word_lists.specs.PackedKeys.{packed_key}
-use Rattle.coll_letters.specs.declared.element_marks.ElementMarks.{ElementMarks}
 use Rattle.coll_words.specs.declared.letter_keys.FirstKept.{FirstKept}
 use Rattle.coll_words.specs.declared.letter_keys.LetterKey.{LetterKey}
-use Rattle.coll_words.specs.declared.text_letters.TextLetters.{TextLetters}
-use Rattle.coll_words.proofs.FirstLemmas.{first_of_elements}
-use Rattle.coll_letters.proofs.LetterLemmas.{alone_first}
-use Rattle.coll_letters.proofs.MarkLemmas.{all_alone}
-
--- characters that are apart serve
-pub serve_texts : (table : Collation) (marks : ElementMarks) (letters : TextLetters) → AreMarks table marks → AreApartIn marks letters → ServeTexts table letters
-serve_texts table marks letters are apart = record { alone = all_alone table marks are (chars (string_bytes letters.text)) apart.apart; few = apart.few }
+use Rattle.coll_words.proofs.FirstLemmas.{element_packed, first_of_elements}
+use Rattle.coll_letters.proofs.LetterLemmas.{letter_first}
 
 -- a level that begins plainly is one
 pub plain_level : (rules : List Rule) → begins_plainly rules ≡ true → 0 < length rules
@@ -36,23 +29,23 @@ plain_level (rule ∷ rules) plain = omega arith
 -- Characters.
 
 -- a text begins with a character that stands alone
-pub begins_kept : (table : Collation) (weights : WeightsValue) (text : List ℕ) (c : ℕ) (first : FirstKept) → text ≡ c ∷ chars first.rest.now → first.kept.letter ≡ c → IsLetterKey table weights first.kept
-    → StandsAlone table c (chars first.rest.now) → BeginsWithKept table weights text first
-begins_kept table weights text c first is letter kept alone = record {
-  elements = ap (elements_of table) is ∙ alone_first table c (chars first.rest.now) alone
-      ∙ ap (λ (c : ℕ). Char c ∷ elements_of table (chars first.rest.now)) (sym letter);
-  kept = kept;
+pub begins_kept : (table : Collation) (weights : WeightsValue) (text : List ℕ) (c : ℕ) (kept : LetterKey) (first : FirstKept) → 0 < length table.rules → text ≡ c ∷ chars first.rest.now
+    → kept.letter ≡ c → first.number ≡ kept.number → first.row ≡ kept.row → IsLetterKey table weights kept → StandsAlone table c (chars first.rest.now)
+    → BeginsWithKept table weights text first
+begins_kept table weights text c kept first some is letter number row has alone = record {
+  numbers = letter_first table weights c first.row text (chars first.rest.now) is alone
+      (subst (λ (r : ElementRow). IsRowOf table weights c r) (sym row) (subst (λ (d : ℕ). IsRowOf table weights d kept.row) letter has.row)) 0 some;
+  packed = λ above.
+      ap (λ (r : ElementRow). packed_key (row_numbers weights 0 r)) row
+      ∙ ap packed_key (has.row.numbers 0 some)
+      ∙ (has.plain (omega (arith, above, number))).packed
+      ∙ ap (λ (n : ℕ). n ∷ []) (sym number);
   shorter = omega (arith, ap length is);
 }
 
 -- a character that is kept with its number stands alone
 pub plain_alone : (table : Collation) (weights : WeightsValue) (c : ℕ) (kept : LetterKey) (rest : List ℕ) → kept.letter ≡ c → IsLetterKey table weights kept → 0 < kept.number → StandsAlone table c rest
 plain_alone table weights c kept rest letter is above = subst (λ (c : ℕ). StandsAlone table c rest) letter ((is.plain above).alone rest)
-
--- what a row weighs at the first level
-pub row_at_first : (table : Collation) (weights : WeightsValue) (kept : LetterKey) (ns : List ℕ) → IsLetterKey table weights kept → 0 < length table.rules → ns ≡ row_numbers weights 0 kept.row
-    → packed_key ns ≡ packed_key (numbers_at table 0 (Char kept.letter))
-row_at_first table weights kept ns is some numbers = ap packed_key (numbers ∙ is.row.numbers 0 some)
 
 -- a number is that of its row
 pub number_packed : (table : Collation) (weights : WeightsValue) (c number : ℕ) (row : ElementRow) (ns : List ℕ) → IsRowOf table weights c row → 0 < length table.rules → ns ≡ row_numbers weights 0 row
@@ -68,13 +61,21 @@ letters_more table weights letters letters_now kept with is all =
 
 -- Texts.
 
+joined : {P : Type 0} (f : P → List ℕ) (ps : List P) → flat_map f ps ≡ flat_map (λ (ns : List ℕ). ns) (map f ps)
+joined f [] = refl
+joined f (p ∷ ps) = ap (λ (l : List ℕ). f p ++ l) (joined f ps)
+
 -- numbers element by element
 pub numbers_by_lists : {P Q : Type 0} (f : P → List ℕ) (g : Q → List ℕ) (ps : List P) (qs : List Q) → map f ps ≡ map g qs → flat_map f ps ≡ flat_map g qs
 numbers_by_lists f g ps qs same = joined f ps ∙ ap (flat_map (λ (ns : List ℕ). ns)) same ∙ sym (joined g qs)
-  where
-    joined : {P : Type 0} (f : P → List ℕ) (ps : List P) → flat_map f ps ≡ flat_map (λ (ns : List ℕ). ns) (map f ps)
-    joined f [] = refl
-    joined f (p ∷ ps) = ap (λ (l : List ℕ). f p ++ l) (joined f ps)
+
+-- the numbers of the first element are put
+pub first_put : (f : Id → List ℕ) (ids later : List Id) (ns old now : List ℕ) → map f ids ≡ ns ∷ map f later → now ≡ old ++ packed_key ns
+    → old ++ packed_key (flat_map f ids) ≡ now ++ packed_key (flat_map f later)
+first_put f ids later ns old now begins put =
+    ap (λ (l : List ℕ). old ++ packed_key l) (joined f ids ∙ ap (flat_map (λ (l : List ℕ). l)) begins)
+    ∙ element_packed (λ (l : List ℕ). l) (ns ∷ map f later) (map f later) ns ns old now refl refl put
+    ∙ ap (λ (l : List ℕ). now ++ packed_key l) (sym (joined f later))
 
 no_elements : (table : Collation) → elements_of table [] ≡ []
 unfolding elements_of

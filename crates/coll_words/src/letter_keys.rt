@@ -1,8 +1,8 @@
 //! Keys of words by what their characters weigh, for sorts.
 //!
 //! What words are sorted by first is made along their texts: of each character its number at the first level is kept as it is packed,
-//! if it has a single one and no element begins with it, so that it takes one look-up. Else the row of its weights serves. What is left
-//! of a text at a character without a row, or where an element may begin, goes by the places of the table's entries.
+//! if it has a single one and no element begins with it, so that it takes one look-up. Else the row of its weights serves, and where an
+//! element begins that of its string. What is left of a text at a character without a row goes by the places of the table's entries.
 //!
 //! The simple form is `first_keys`, by ranks; both give the same (`Give`, `packed_first_key`).
 
@@ -14,20 +14,20 @@ ghost use Rattle.coll_nodes.specs.TableLayout.{collation};
 ghost use Rattle.coll_elements.specs.Elements.{elements_of};
 ghost use Rattle.coll_key.specs.KeyLimits.{is_too_long};
 ghost use Rattle.coll_key.specs.SortKey.{key_of};
-ghost use Rattle.coll_ranks.specs.LevelWeights.{level_numbers};
+ghost use Rattle.coll_ranks.specs.LevelWeights.{level_numbers, row_numbers};
 ghost use Rattle.coll_ranks.specs.WeightNumbers.{numbers_at};
-ghost use Rattle.coll_syntax.specs.declared.identifiers.Id.TheVariants.{Char};
 ghost use Rattle.coll_words.specs.FirstKeys.{begins_plainly, packed_first_key};
-ghost use Rattle.coll_words.specs.LetterKeys.{AreLetterKeys, BeginsWithKept, HasLevel, IsLetterKey, ServeTexts};
+ghost use Rattle.coll_words.specs.LetterKeys.{AreLetterKeys, BeginsWithKept, HasLevel, IsLetterKey, IsPacked, ServesTexts};
 ghost use Rattle.coll_letters.specs.LetterWeights.{AreLetterWeights, IsLetterRow};
 ghost use Rattle.coll_word_lists.specs.PackedKeys.{packed_key};
 ghost use Rattle.coll_letters.specs.ElementMarks.{AreMarks};
 
 use crate::first_keys::with_weight;
-use crate::text_letters::TextLetters;
 use coll_elements::CodePoints;
 use coll_key::{EntryNumbers, KeyFault, MOST_TEXT_CHARACTERS, key_of_text};
-use coll_letters::{ElementMarks, LetterRow, LetterWeights, number_of, split_first_char};
+use coll_letters::{
+    ElementMarks, LetterRow, LetterWeights, PieceText, number_of, split_first_char,
+};
 use coll_ranks::{ElementRow, LevelWeights, TextWeights, WeightRanks};
 use coll_table::Table;
 use coll_word_lists::{short_number, with_room, with_short};
@@ -44,16 +44,18 @@ pub(crate) struct LetterKey {
     pub row: ElementRow,
 }
 
-/// The character that a text begins with.
+/// The element that a text begins with.
 #[derive(Clone, Copy)]
 pub(crate) struct FirstKept<'a> {
-    /// The character, and what it weighs.
-    pub kept: LetterKey,
+    /// Its number at the first level, packed, or 0 where that isn't kept.
+    pub number: u32,
+    /// Its row.
+    pub row: ElementRow,
     /// The text behind it.
     pub rest: &'a str,
 }
 
-/// What characters weigh, by one table as it stood when they were made.
+/// What characters and strings weigh, by one table as it stood when they were made.
 #[derive(Drop)]
 pub(crate) struct LetterKeys {
     // The characters, in the order of their places.
@@ -66,15 +68,15 @@ pub(crate) struct LetterKeys {
 }
 
 impl LetterKeys {
-    /// What these characters weigh, in new memory. The marks are those of the table, whose first level is looked at from the front and
-    /// has no positions.
+    /// What these characters and strings weigh, in new memory. The marks are those of the table, whose first level is looked at from the
+    /// front and has no positions.
     pub fn new(
         alloc: Global,
         table: &Table,
-        letters: TextLetters,
+        letters: PieceText,
         marks: ElementMarks,
     ) -> Result<LetterKeys, AllocError>
-        requires letters { ServeTexts (collation table.now) letters }
+        requires letters { ServesTexts letters }
         requires marks { AreMarks (collation table.now) marks }
         requires plain { begins_plainly (collation table.now).rules ≡ true }
         ensures { IfOk result (AreLetterKeys table.now) }
@@ -110,7 +112,7 @@ impl LetterKeys {
         'letters: while let Some(first) = self.first(table, left) {
             left = first.rest;
             later -= 1;
-            with = with_letter(table, &self.weights, at_first, with, first.kept, later)?;
+            with = with_first(table, &self.weights, at_first, with, first, later)?;
         }
         if left.is_empty() {
             return Ok(with);
@@ -129,12 +131,12 @@ impl LetterKeys {
         }
     }
 
-    // The character that a text begins with, unless none is kept, or an element may begin with it. Its place is only guessed, so what
-    // stands there is looked at.
+    // The element that a text begins with, unless it has no row. The place of a character is only guessed, so what stands there is looked
+    // at.
     #[inline(always)]
-    fn first<'a>(&self, _table: &Table, text: &'a str) -> Option<FirstKept<'a>>
-        requires { AreLetterKeys _table.now self.now }
-        ensures { IfSome result (BeginsWithKept (collation _table.now) self.now.weights.made.weights (chars text.now)) }
+    fn first<'a>(&self, table: &Table, text: &'a str) -> Option<FirstKept<'a>>
+        requires { AreLetterKeys table.now self.now }
+        ensures { IfSome result (BeginsWithKept (collation table.now) self.now.weights.made.weights (chars text.now)) }
     {
         let (letter, rest) = split_first_char(text)?;
         let place = self.places.get(letter).checked_sub(1)? as usize;
@@ -142,42 +144,58 @@ impl LetterKeys {
         if place < letters.len() {
             let kept = letters[place];
             if kept.letter == letter {
-                if kept.number > 0 {
-                    return Some(FirstKept { kept, rest });
+                let (number, row) = (kept.number, kept.row);
+                if number > 0 {
+                    return Some(FirstKept { number, row, rest });
                 }
                 if self.weights.marks().is_apart(letter, rest) {
-                    return Some(FirstKept { kept, rest });
+                    return Some(FirstKept { number, row, rest });
                 }
+                return self.first_looked_up(table, text);
             }
         }
         None
     }
+
+    // The same, where an element may begin with the first character.
+    #[inline(never)]
+    fn first_looked_up<'a>(&self, table: &Table, text: &'a str) -> Option<FirstKept<'a>>
+        requires { AreLetterKeys table.now self.now }
+        ensures { IfSome result (BeginsWithKept (collation table.now) self.now.weights.made.weights (chars text.now)) }
+    {
+        let first = self.weights.first_letter(table, &self.places, text)?;
+        Some(FirstKept {
+            number: 0,
+            row: first.row,
+            rest: first.rest,
+        })
+    }
 }
 
-// Puts the numbers of a character at the first level behind others, packed, and leaves room for later ones.
+// Puts the numbers of an element at the first level behind others, packed, and leaves room for later ones.
 #[inline(always)]
-fn with_letter(
+fn with_first(
     _table: &Table,
     _weights: &LetterWeights,
     at_first: LevelWeights<'_>,
     keys: Vec<u32>,
-    kept: LetterKey,
+    first: FirstKept<'_>,
     later: usize,
 ) -> Result<Vec<u32>, AllocError>
-    requires kept { IsLetterKey (collation _table.now) _weights.now.made.weights kept }
+    requires packed { IsPacked _weights.now.made.weights first.number first.row }
     requires first { HasLevel (collation _table.now) _weights.now.made.weights at_first }
     requires few { later ≤ 65_536 }
     requires room { vec_len keys + later + 1 ≤ vec_capacity keys }
-    ensures numbers { IfOk result (λ with. with.items ≡ keys.items ++ packed_key (numbers_at (collation _table.now) 0 (Char kept.letter))) }
+    ensures numbers { IfOk result (λ with. with.items ≡ keys.items ++ packed_key (row_numbers _weights.now.made.weights 0 first.entry.row)) }
     ensures room { IfOk result (λ with. vec_len with + later ≤ vec_capacity with) }
 {
-    if kept.number > 0 {
-        return Ok(with_short(keys, kept.number));
+    if first.number > 0 {
+        return Ok(with_short(keys, first.number));
     }
     with_weight(
         keys,
-        at_first.ranks(kept.row),
-        at_first.added(kept.row),
+        at_first.ranks(first.row),
+        at_first.added(first.row),
         later,
     )
 }

@@ -6,7 +6,7 @@
 //!
 //! - `sorting`: the words of an input are sorted, and written (`SortRuns` of `coll_word_lists`);
 //! - `sort_keys`, what gives what they are sorted by (`SortKeys`): `first_keys` by the ranks of a table (`FirstKeys`), or `letter_keys` by
-//!   what their characters weigh (`LetterKeys`), which `text_letters` gathers;
+//!   what their characters, and the elements in them, weigh (`LetterKeys`), which `text_letters` gathers;
 //! - `stored_words`, the words with what they are sorted by first (`StoredWords`); `key_leads`, what these keys begin with as one number
 //!   (`KeyLeads`); `lent_words`, which are sorted (`LentWords`); and `tied_words`, which are sorted by their whole keys.
 //!

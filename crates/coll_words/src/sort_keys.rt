@@ -1,7 +1,7 @@
 //! What gives the words of a sort their keys.
 //!
-//! Words have few characters, however many they are. Where no collating element begins within a word, it is its characters, and what
-//! these weigh serves, so that the table's entries are only numbered. Else the ranks of the whole table are made.
+//! Words have few characters, however many they are, and few strings in them may be collating elements: what these weigh serves, so that the
+//! table's entries are only numbered. Where they are many, the ranks of the whole table are made.
 
 ghost use Rattle.std.specs.Prelude.{◌≡◌, ◌++◌, chars, IfOk, IfSome};
 ghost use Rattle.coll_nodes.specs.TableLayout.{collation};
@@ -12,19 +12,22 @@ ghost use Rattle.coll_words.specs.SortKeys.{Give};
 
 use crate::first_keys::{begins_plainly, with_first_key};
 use crate::letter_keys::LetterKeys;
-use crate::text_letters::TextLetters;
+use crate::text_letters::pieces_of_texts;
 use coll_key::{KeyFault, Ranks, is_too_long, key};
 use coll_letters::{ElementMarks, most_letters};
 use coll_table::Table;
 use coll_word_lists::StoredTexts;
 use std::alloc::{AllocError, Global};
 
+// For each text and each entry of the table so many strings of texts may be looked at where elements may begin.
+const LOOKS_A_TEXT: usize = 4;
+
 /// What gives keys by one table as it stood when it was made.
 #[derive(Drop)]
 pub(crate) enum SortKeys {
     /// The ranks of the whole table.
     ByRanks(Ranks),
-    /// What the characters of the words weigh.
+    /// What the characters of the words and strings in them weigh.
     ByLetters(LetterKeys),
 }
 
@@ -75,7 +78,7 @@ impl SortKeys {
     }
 }
 
-// What the characters of texts weigh in a table, where that serves.
+// What the characters of texts and strings in them weigh in a table, where that serves.
 fn letter_keys_of(
     alloc: Global,
     table: &Table,
@@ -87,9 +90,13 @@ fn letter_keys_of(
         return Ok(None);
     }
     let marks = ElementMarks::of(alloc, table)?;
-    match TextLetters::of(alloc, texts, &marks, most_letters(table))? {
-        Some(letters) => {
-            let keys = LetterKeys::new(alloc, table, letters, marks)?;
+    let looks = table
+        .len()
+        .saturating_add(texts.len())
+        .saturating_mul(LOOKS_A_TEXT);
+    match pieces_of_texts(alloc, texts, &marks, most_letters(table), looks)? {
+        Some(pieces) => {
+            let keys = LetterKeys::new(alloc, table, pieces, marks)?;
             Ok(Some(keys))
         }
         None => Ok(None),

@@ -4,14 +4,12 @@ use Rattle.std.specs.Prelude.{IfOk}
 use Rattle.std.proofs.lemmas.Bool.{eqb-true, ltb-false}
 use Rattle.std.proofs.lemmas.List.{nil_from_length}
 use Rattle.std.proofs.lemmas.Str.{chars-nil, length-le-encodes, encodes-chars}
-use Rattle.coll_syntax.specs.declared.identifiers.Id.TheVariants.{Char}
 use Rattle.coll_nodes.specs.TableLayout.{collation}
 use Rattle.coll_elements.specs.Elements.{elements_of}
 use Rattle.coll_ranks.specs.LevelWeights.{row_numbers}
 use Rattle.coll_ranks.specs.RankLists.{WeightsValue}
 use Rattle.coll_ranks.specs.WeightNumbers.{numbers_at}
-use Rattle.coll_words.proofs.FirstLemmas.{element_packed}
-use Rattle.coll_words.proofs.LetterKeyLemmas.{letters_done, letters_left, plain_level}
+use Rattle.coll_words.proofs.LetterKeyLemmas.{first_put, letters_done, letters_left, plain_level}
 use Rattle.coll_words.proofs.letter_keys.LetterKeys.with_first_key.Goals as goal
 
 pub letters-init : goal.letters-init
@@ -28,8 +26,8 @@ letters-init c =
       same = refl;
     }
 
-pub with_letter-requires-clause-first : goal.with_letter-requires-clause-first
-with_letter-requires-clause-first c = record {
+pub with_first-requires-clause-first : goal.with_first-requires-clause-first
+with_first-requires-clause-first c = record {
   level = plain_level (collation c.args.table.now).rules c.requires.keys.plain;
   numbers = λ row.
       c.at_level-at_first.ensures row ∙ ap (λ (w : WeightsValue). row_numbers w 0 row) c.weights.ensures ∙ ap (λ made. row_numbers made.weights 0 row) c.made.ensures;
@@ -45,8 +43,8 @@ letters-preserved c =
       most = omega (arith, c.letters.invariant.most);
       room = c.in_ok-with-2.ensures.room;
       same = c.letters.invariant.same
-          ∙ element_packed (numbers_at table 0) (elements_of table (chars c.letters.left.now)) (elements_of table (chars first.rest.now)) (Char first.kept.letter) (numbers_at table 0 (Char first.kept.letter))
-          c.letters.with.items c.in_ok-with-2.with.items c.in-Some.ensures.elements refl c.in_ok-with-2.ensures.numbers;
+          ∙ first_put (numbers_at table 0) (elements_of table (chars c.letters.left.now)) (elements_of table (chars first.rest.now)) (row_numbers c.args.self.now.weights.made.weights 0 first.row)
+          c.letters.with.items c.in_ok-with-2.with.items c.in-Some.ensures.numbers c.in_ok-with-2.ensures.numbers;
     }
 
 pub returns-then-is_empty : goal.returns-then-is_empty
