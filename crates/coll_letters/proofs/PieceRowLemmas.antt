@@ -54,9 +54,9 @@ module _ (table : Collation) (weights : WeightsValue) (element : TextElement) (e
   pub row_of_piece : (piece : FirstPiece) → IsFirstPiece table text piece → IsRowOfPiece table weights piece (row_of weights element)
   row_of_piece (Letter c rest) is = record { numbers = numbers_first (Char c) (chars rest.now) (λ level. ap (map (numbers_at table level)) is.elements) }
   row_of_piece (Element string rest) is = record {
-    numbers = λ entry placed level within.
-        numbers_first is.entry.id (chars rest.now) (λ l. ap (map (numbers_at table l)) is.elements) level within
-        ∙ ap (λ (e : Entry). numbers_at table level e.id) (same_entry is.entry entry (sym is.placed ∙ placed));
+    entry = is.entry;
+    placed = is.placed;
+    numbers = numbers_first is.entry.id (chars rest.now) (λ level. ap (map (numbers_at table level)) is.elements);
   }
 
   pub numbers_behind_piece : (piece : FirstPiece) → IsFirstPiece table text piece → (level : ℕ) → level < length table.rules
@@ -78,7 +78,8 @@ pub string_piece : (table : Collation) (weights : WeightsValue) (text string : L
 string_piece table weights text string first is has = record {
   numbers = λ level within.
       ap (map (numbers_at table level)) is.elements
-      ∙ ap (λ (ns : List ℕ). ns ∷ text_numbers table level (chars first.rest.now)) (sym (has.numbers is.entry is.placed level within));
+      ∙ ap (λ (ns : List ℕ). ns ∷ text_numbers table level (chars first.rest.now))
+      (ap (λ (e : Entry). numbers_at table level e.id) (same_entry is.entry has.entry (sym is.placed ∙ has.placed)) ∙ sym (has.numbers level within));
   shorter = is.shorter;
 }
 

@@ -19,7 +19,7 @@ abbrev pub rest_behind : FirstPiece → List ℕ
 rest_behind (Letter c rest) = rest.now
 rest_behind (Element string rest) = rest.now
 
--- the rows that are kept are those of their characters, and of their strings
+-- the rows that are kept are those of their characters, and what is kept of strings is known of them
 pub record ArePieceRows (table : Collation) (weights : WeightsValue) (kept : PieceRows) : Type 0 where
   pub letters : All (IsLetterRow table weights) kept.letters.items
   pub strings : AreStringRows table weights kept.strings

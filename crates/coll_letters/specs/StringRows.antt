@@ -1,5 +1,5 @@
--- What the strings of collating elements weigh in a table.
-use Rattle.std.specs.Prelude.{◌≡◌, ◌<◌, ℕ, List, All, Some, length}
+-- What is known of strings by a table: what those of collating elements weigh, and which are none.
+use Rattle.std.specs.Prelude.{◌≡◌, ◌<◌, ℕ, List, All, None, Some, length}
 use Rattle.coll_nodes.specs.ElementTexts.{element_entry}
 use Rattle.coll_nodes.specs.Table.{Collation}
 use Rattle.coll_nodes.specs.declared.entries.Entry.{Entry}
@@ -7,17 +7,26 @@ use Rattle.coll_ranks.specs.LevelWeights.{row_numbers}
 use Rattle.coll_ranks.specs.RankLists.{WeightsValue}
 use Rattle.coll_ranks.specs.WeightNumbers.{numbers_at}
 use Rattle.coll_ranks.specs.declared.text_elements.ElementRow.{ElementRow}
+use Rattle.coll_letters.specs.declared.string_rows.KnownString.{KnownString}
+use Rattle.coll_letters.specs.declared.string_rows.KnownString.TheVariants.{Element, NoElement}
 use Rattle.coll_letters.specs.declared.string_rows.StringRow.{StringRow}
 use Rattle.coll_letters.specs.declared.string_rows.StringRows.{StringRows}
 
--- where a string is that of an element that is placed, a row has the numbers of the element
+-- a string is that of an element that is placed, and a row has the numbers of the element
 pub record IsRowOfString (table : Collation) (weights : WeightsValue) (string : List ℕ) (row : ElementRow) : Type 0 where
-  pub numbers : (entry : Entry) → element_entry table string ≡ Some entry → (level : ℕ) → level < length table.rules → row_numbers weights level row ≡ numbers_at table level entry.id
+  pub entry : Entry
+  pub placed : element_entry table string ≡ Some entry
+  pub numbers : (level : ℕ) → level < length table.rules → row_numbers weights level row ≡ numbers_at table level entry.id
 
--- a string with its row
+-- what is known of a string holds: it is an element's, with its row, or that of none
+abbrev pub IsKnownString : Collation → WeightsValue → (string : List ℕ) → KnownString → Type 0
+IsKnownString table weights string (Element row) = IsRowOfString table weights string row
+IsKnownString table weights string NoElement = element_entry table string ≡ None
+
+-- a string, and what is known of it
 abbrev pub IsStringRow : Collation → WeightsValue → StringRow → Type 0
-IsStringRow table weights kept = IsRowOfString table weights kept.text kept.row
+IsStringRow table weights kept = IsKnownString table weights kept.text kept.known
 
--- the rows that are kept are those of their strings
+-- what is kept of strings is known of them
 pub record AreStringRows (table : Collation) (weights : WeightsValue) (kept : StringRows) : Type 0 where
   pub rows : All (IsStringRow table weights) kept.rows.items

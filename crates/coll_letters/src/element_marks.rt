@@ -63,6 +63,21 @@ impl ElementMarks {
         Ok(marks)
     }
 
+    /// The marks of the elements that were declared behind so many others, in new memory.
+    pub fn since(alloc: Global, table: &Table, count: usize) -> Result<ElementMarks, AllocError> {
+        table.lemma_well_formed();
+        let mut marks = ElementMarks {
+            firsts: CodePoints::new(alloc),
+            pairs: Vec::new(alloc),
+            count: 0,
+        };
+        let mut left = table.declared();
+        'declared: while let Some(item) = left.next() {
+            mark_behind(&mut marks, item, count)?;
+        }
+        Ok(marks)
+    }
+
     /// How many elements were declared.
     pub fn count(&self) -> usize {
         self.count
@@ -89,6 +104,11 @@ impl ElementMarks {
             return false;
         }
         self.goes_on_other(letter, rest)
+    }
+
+    /// Whether a character is marked as a whole string, or makes a marked pair with the text behind it, whatever it is marked as itself.
+    pub fn is_marked_at(&self, letter: char, rest: &str) -> bool {
+        self.firsts.get(letter) >= WHOLE || !self.goes_on_other(letter, rest)
     }
 
     // Whether a character makes no marked pair with what follows it.
@@ -256,6 +276,23 @@ fn mark_declared(marks: &mut ElementMarks, item: DeclaredItem<'_>) -> Result<(),
             marks.count = marks.count.saturating_add(1);
             mark_string(marks, text)
         }
+    }
+}
+
+// The same, where as many elements were declared before, which are counted.
+fn mark_behind(
+    marks: &mut ElementMarks,
+    item: DeclaredItem<'_>,
+    count: usize,
+) -> Result<(), AllocError>
+    requires { HasString (declared_by item) }
+{
+    match item {
+        DeclaredItem::Element(_, _) if marks.count < count => {
+            marks.count = marks.count.saturating_add(1);
+            Ok(())
+        }
+        other => mark_declared(marks, other),
     }
 }
 

@@ -2,7 +2,9 @@
 //!
 //! Where the marks tell that no element begins (`ElementMarks::is_apart`), it is the character, and nothing is looked up. Else the prefixes
 //! of the text are looked up in the table, the longest first, from as many characters on as the marks say (`most_at`): the first one that
-//! is the string of an element that is placed decides. So a text that begins with an element of two characters takes one look-up.
+//! is the string of an element that is placed decides. So where no string that begins with the pair is longer, an element of two characters
+//! takes one look-up. Rows are made so (`piece_rows`); where words are compared, what is known of their strings takes the place of these
+//! look-ups (`string_rows`).
 
 ghost use Rattle.std.specs.Prelude.{◌≡◌, ◌<◌, ◌++◌, [], ℕ, suc, List, chars, length, IfSome, MatchOption};
 ghost use Rattle.coll_nodes.specs.TableLayout.{collation};

@@ -5,8 +5,8 @@
 //!
 //! - `element_marks`: which characters stand first in the string of an element, and which two (`ElementMarks`); `first_pieces`: with what
 //!   element a text begins (`FirstPieces`);
-//! - `text_pieces`: the characters and strings of texts, gathered; `piece_rows`: the row of each (`PieceRows`); `string_rows`: how that of a
-//!   string is found (`StringRows`);
+//! - `text_pieces`: the characters and strings of texts, gathered; `piece_rows`: the row of each (`PieceRows`); `string_rows`: how what is
+//!   known of a string is found (`StringRows`);
 //! - `letter_weights`: what characters and strings weigh, and two texts compared by it (`LetterWeights`), mostly by the single numbers that
 //!   characters have at the first level (`first_numbers`, `FirstNumbers`, `FirstOrders`), and else by all that they have at a level
 //!   (`level_numbers`, `LevelNumbers`; from the back `back_numbers`, `BackNumbers`), or by what is ignored (`alike_levels`, `AlikeLevels`).

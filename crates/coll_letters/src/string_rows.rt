@@ -1,4 +1,4 @@
-//! The rows of the strings of collating elements, found by the string.
+//! What is known of strings: the rows of those that are collating elements, and which are none, found by the string.
 //!
 //! The strings that begin with one character stand one behind another, in their order, if they were put so: a string is sought among them
 //! by halves, so many strings that begin alike make no look-up long. What is found is compared with the string that was sought, whatever
@@ -7,23 +7,32 @@
 ghost use Rattle.std.specs.Prelude.{chars, IfSome, OnOk};
 ghost use Rattle.coll_nodes.specs.Table.{Collation};
 ghost use Rattle.coll_ranks.specs.RankLists.{WeightsValue};
-ghost use Rattle.coll_letters.specs.StringRows.{AreStringRows, IsRowOfString};
+ghost use Rattle.coll_letters.specs.StringRows.{AreStringRows, IsKnownString};
 
 use coll_elements::CodePoints;
 use coll_lex::TextBuf;
 use coll_ranks::ElementRow;
 use std::alloc::{AllocError, Global};
 
-// A string and its row.
+/// What is known of a string.
+#[derive(Clone, Copy)]
+pub(crate) enum KnownString {
+    /// It is that of an element that is placed, which has this row.
+    Element(ElementRow),
+    /// It is that of none.
+    NoElement,
+}
+
+// A string, and what is known of it.
 #[derive(Drop)]
 struct StringRow {
     text: TextBuf,
-    row: ElementRow,
+    known: KnownString,
     // Before how many strings the first one stands that begins with the same character.
     begun: u32,
 }
 
-/// Strings with their rows.
+/// Strings, and what is known of each.
 #[derive(Drop)]
 pub(crate) struct StringRows {
     rows: Vec<StringRow>,
@@ -45,20 +54,20 @@ impl StringRows {
         }
     }
 
-    /// Puts a string, which begins with this character, and its row behind others.
+    /// Puts a string, which begins with this character, and what is known of it behind others.
     pub fn push(
         &mut self,
         alloc: Global,
         first: char,
         string: &str,
-        row: ElementRow,
+        known: KnownString,
     ) -> Result<(), AllocError>
         ensures { OnOk result ((table : Collation) (weights : WeightsValue) → AreStringRows table weights self.old
-            → IsRowOfString table weights (chars string.now) row → AreStringRows table weights self.new) }
+            → IsKnownString table weights (chars string.now) known → AreStringRows table weights self.new) }
     {
         let text = TextBuf::copied(alloc, string)?;
         let begun = self.begun(first);
-        self.rows.push(StringRow { text, row, begun })?;
+        self.rows.push(StringRow { text, known, begun })?;
         self.count = self.count.saturating_add(1);
         self.ends.set(first, self.count)?;
         Ok(())
@@ -75,10 +84,10 @@ impl StringRows {
         }
     }
 
-    /// The row of a string that begins with this character, if it has one.
-    pub fn row(&self, first: char, string: &str) -> Option<ElementRow>
+    /// What is known of a string that begins with this character, if it was put.
+    pub fn known(&self, first: char, string: &str) -> Option<KnownString>
         ensures { (table : Collation) (weights : WeightsValue) → AreStringRows table weights self.now
-            → IfSome result (IsRowOfString table weights (chars string.now)) }
+            → IfSome result (IsKnownString table weights (chars string.now)) }
     {
         let mut low = self.begun(first) as usize;
         let mut high = self.ends.get(first) as usize;
@@ -87,7 +96,7 @@ impl StringRows {
             let kept = self.rows.get(middle)?;
             let text = kept.text.get();
             if text == string {
-                return Some(kept.row);
+                return Some(kept.known);
             }
             if string.cmp(text).is_lt() {
                 high = middle;

@@ -4,21 +4,20 @@
 //! begin in a text each beginning is gathered, up to the most characters that a string has there: whether it is an element's is for the
 //! table to say. So nothing that is gathered is trusted, and no contract speaks of it.
 
-ghost use Rattle.std.specs.Prelude.{◌≤◌, length};
-
 use crate::element_marks::ElementMarks;
 use crate::first_pieces::split_characters;
 use crate::letter_weights::split_first_char;
 use coll_elements::CodePoints;
-use coll_lex::TextBuf;
 use std::alloc::{AllocError, Global};
+use std::collections::BTreeSet;
 
-// What stands behind a character with which an element begins, and behind a string, so that they hold no other element.
-const SEPARATOR: char = '\0';
+/// What stands behind a character with which an element begins, and behind a string, so that they hold no other element.
+pub(crate) const SEPARATOR: char = '\0';
 
 /// The characters of texts and the strings that may be elements in them, each once.
 #[derive(Drop)]
 pub struct TextPieces {
+    alloc: Global,
     // The characters with which no element begins, and of each its place among them, from 1.
     plain: String,
     plain_places: CodePoints,
@@ -26,8 +25,7 @@ pub struct TextPieces {
     // Those with which one begins, and which of them there are.
     beginning: String,
     are_beginning: CodePoints,
-    // The strings, in their order.
-    strings: Vec<TextBuf>,
+    strings: BTreeSet<String>,
     // How many characters and strings there may be yet, and how many strings may be looked at, in all and in each text.
     room: usize,
     looks: usize,
@@ -51,12 +49,13 @@ impl TextPieces {
     /// takes no memory.
     pub fn new(alloc: Global, room: usize, looks: usize, looks_a_text: usize) -> TextPieces {
         TextPieces {
+            alloc,
             plain: String::new(alloc),
             plain_places: CodePoints::new(alloc),
             plain_count: 0,
             beginning: String::new(alloc),
             are_beginning: CodePoints::new(alloc),
-            strings: Vec::new(alloc),
+            strings: BTreeSet::new(alloc),
             room,
             looks,
             looks_a_text,
@@ -83,6 +82,34 @@ impl TextPieces {
         Ok(true)
     }
 
+    /// Adds the pieces of a text that these gave (`into_text`), by marks of more elements, and tells whether there was room, and there
+    /// were looks.
+    pub fn add_again(&mut self, pieces: &str, marks: &ElementMarks) -> Result<bool, AllocError> {
+        let (letters, strings) = match pieces.split_once(SEPARATOR) {
+            Some(parts) => parts,
+            None => (pieces, ""),
+        };
+        if !self.add_letters(letters, marks)? {
+            return Ok(false);
+        }
+        for string in strings.split(SEPARATOR) {
+            if !self.add(string, marks)? {
+                return Ok(false);
+            }
+        }
+        Ok(true)
+    }
+
+    // Adds characters, and none of the strings that they make one behind another.
+    fn add_letters(&mut self, letters: &str, marks: &ElementMarks) -> Result<bool, AllocError> {
+        for letter in letters.chars() {
+            if !self.add_letter(letter, marks)? {
+                return Ok(false);
+            }
+        }
+        Ok(true)
+    }
+
     // Adds a character that isn't there, or with which an element may begin, and the strings at it, and tells whether there was room.
     #[inline(never)]
     fn add_other(
@@ -92,15 +119,8 @@ impl TextPieces {
         rest: &str,
         marks: &ElementMarks,
     ) -> Result<bool, AllocError> {
-        if marks.begin_without(letter) {
-            return self.add_plain(letter);
-        }
-        if self.are_beginning.get(letter) == 0 {
-            if !self.take_room() {
-                return Ok(false);
-            }
-            self.are_beginning.set(letter, 1)?;
-            self.beginning.push(letter)?;
+        if !self.add_letter(letter, marks)? {
+            return Ok(false);
         }
         if marks.is_apart(letter, rest) {
             return Ok(true);
@@ -109,8 +129,27 @@ impl TextPieces {
         self.add_strings(text, marks.most_at(letter, rest))
     }
 
+    // Adds a character, unless it is there, and tells whether there was room.
+    fn add_letter(&mut self, letter: char, marks: &ElementMarks) -> Result<bool, AllocError> {
+        if marks.begin_without(letter) {
+            return self.add_plain(letter);
+        }
+        if self.are_beginning.get(letter) > 0 {
+            return Ok(true);
+        }
+        if !self.take_room() {
+            return Ok(false);
+        }
+        self.are_beginning.set(letter, 1)?;
+        self.beginning.push(letter)?;
+        Ok(true)
+    }
+
     // Adds a character with which no element begins.
     fn add_plain(&mut self, letter: char) -> Result<bool, AllocError> {
+        if self.plain_places.get(letter) > 0 {
+            return Ok(true);
+        }
         if !self.take_room() {
             return Ok(false);
         }
@@ -161,24 +200,22 @@ impl TextPieces {
         if !self.take_look() {
             return Ok(false);
         }
-        let place = place_of(&self.strings, string);
-        if let Some(there) = self.strings.get(place) {
-            if there.get() == string {
-                return Ok(true);
-            }
+        if self.strings.contains(string) {
+            return Ok(true);
         }
-        let Some(room) = self.room.checked_sub(1) else {
+        if !self.take_room() {
             return Ok(false);
-        };
-        self.room = room;
-        let copy = TextBuf::copied(*self.strings.allocator(), string)?;
-        self.strings.insert(place, copy)?;
+        }
+        let copy = String::from_str(self.alloc, string)?;
+        self.strings.insert(copy)?;
         Ok(true)
     }
 
-    /// The pieces as one text: the characters with which no element begins, then those with which one does, and then the strings.
+    /// The pieces as one text: the characters with which no element begins, then those with which one does, and then the strings in their
+    /// order.
     pub fn into_text(self) -> Result<PieceText, AllocError> {
         let TextPieces {
+            alloc: _,
             plain,
             plain_places,
             plain_count,
@@ -202,23 +239,6 @@ impl TextPieces {
     }
 }
 
-// Before how many strings, which stand in their order, a string comes.
-fn place_of(strings: &[TextBuf], string: &str) -> usize
-    ensures { result ≤ length strings.now }
-{
-    let mut low = 0;
-    let mut high = strings.len();
-    'halves: while low < high {
-        let middle = low + (high - low) / 2;
-        if strings[middle].get().cmp(string).is_lt() {
-            low = middle + 1;
-        } else {
-            high = middle;
-        }
-    }
-    low
-}
-
 // Puts characters with which elements begin behind so many others, each before a separator.
 fn put_beginning(pieces: &mut PieceText, letters: &str, count: u32) -> Result<(), AllocError> {
     let mut place = count;
@@ -234,9 +254,9 @@ fn put_beginning(pieces: &mut PieceText, letters: &str, count: u32) -> Result<()
 }
 
 // Puts strings behind a text, each before a separator.
-fn put_strings(text: &mut String, strings: &[TextBuf]) -> Result<(), AllocError> {
-    for string in strings {
-        text.push_str(string.get())?;
+fn put_strings(text: &mut String, strings: &BTreeSet<String>) -> Result<(), AllocError> {
+    for string in strings.iter() {
+        text.push_str(string.as_str())?;
         text.push(SEPARATOR)?;
     }
     Ok(())

@@ -216,7 +216,7 @@ fn taken_marks(
     }
 }
 
-// Gathers the characters and strings of words where they weren't, or where another element was declared since.
+// Gathers the characters and strings of words where they weren't, or anew those of some where another element was declared since.
 fn gather(
     alloc: Global,
     table: &Table,
@@ -224,16 +224,19 @@ fn gather(
     marks: &ElementMarks,
     list: &[ListedWord<'_>],
 ) -> Result<(), AllocError> {
-    let times = match kept {
-        Some(letters) if letters.elements == marks.count() => return Ok(()),
-        Some(letters) => letters.times,
-        None => 0,
-    };
+    let most = most_letters(table);
     let looks = table
         .len()
         .saturating_add(list.len())
         .saturating_mul(LOOKS_A_WORD);
-    let letters = Letters::of(alloc, list, marks, most_letters(table), looks, times)?;
+    let letters = match kept {
+        Some(letters) if letters.elements == marks.count() => return Ok(()),
+        Some(letters) => {
+            let since = ElementMarks::since(alloc, table, letters.elements)?;
+            letters.of_more(alloc, list, marks, &since, most, looks)?
+        }
+        None => Letters::of(alloc, list, marks, most, looks)?,
+    };
     drop(kept.replace(letters));
     Ok(())
 }

@@ -1,14 +1,13 @@
 //! The program: a thin `main` that does what words ask for: batches, sessions, sorts, edits, reviews, lints, explanations, differences and
 //! imports.
 //!
-//! The words are read by `coll_command_line`; `random_keys` draws the keys that names are looked up under, `files` opens what the
-//! words name, `importing` makes tables and delta files of sources, which a batch accepts (`laws`), `explaining` tells why texts compare
-//! as they do, `standard_input` is what serves lines, as `sessions`, `words`, which sorts them, and `editing`, which serves a person;
-//! `reviews` tells what statements do to words, `differences` compares two tables, `linting` tells all that is wrong with one, and
-//! `exports` which symbols of an exported one stand behind a character; `reasons` has why the system refuses a file; `progress` is the
-//! line that says how far a run got, which the readers and writers of `metered` tell. Here the runs are started, and their faults are
-//! told: a line on standard error, what `refusals` tells below it at a terminal, and the exit status, which stands also where that line
-//! can't be written.
+//! The words are read by `coll_command_line`; `coll_system` draws the keys that names are looked up under, opens what the words name, has
+//! why the system refuses a file, and shows how far a run got. `importing` makes tables and delta files of sources, which a batch accepts
+//! (`laws`), `explaining` tells why texts compare as they do, `standard_input` is what serves lines, as `sessions`, `words`, which sorts
+//! them, and `editing`, which serves a person; `reviews` tells what statements do to words, `differences` compares two tables, `linting`
+//! tells all that is wrong with one, and `exports` which symbols of an exported one stand behind a character. Here the runs are started,
+//! and their faults are told: a line on standard error, what `refusals` tells below it at a terminal, and the exit status, which stands
+//! also where that line can't be written.
 #![tactic(auto)]
 
 ghost use Rattle.std.specs.Prelude.{◌<◌, length, vec_len, IfOk, IfErr, ◌≡◌};

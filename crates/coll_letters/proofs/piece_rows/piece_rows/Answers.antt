@@ -31,7 +31,7 @@ loop-element-preserved c =
       text = search rules;
       so_far = pieces_go_on table weights c.args.made.now.elements c.elements-element-items.result.now c.loop-element.element-index none c.loop-element.rows c.put_piece.new.rows c.in-Some.piece
           c.row-row.result (chars c.loop-element.left.now) c.in_ok-left.left.now same (omega (arith, c.loop-element-test.true)) c.in-Some.ensures
-          (c.row-row.ensures ∙ ap (λ (w : WeightsValue). row_of w element) c.weights-weights.ensures) (c.in_ok-left.ensures.rows table weights) c.in_ok-left.ensures.rest
+          (c.row-row.ensures ∙ ap (λ (w : WeightsValue). row_of w element) c.weights-weights.ensures) (c.in_ok-left.ensures.rows weights) c.in_ok-left.ensures.rest
           c.loop-element.invariant.so_far;
     }
 

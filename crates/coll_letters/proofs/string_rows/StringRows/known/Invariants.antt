@@ -1,6 +1,6 @@
 -- The string is sought between two places.
 use Rattle.std.proofs.Common.{◌-◌}
-use Rattle.coll_letters.proofs.string_rows.StringRows.row.Given as goal
+use Rattle.coll_letters.proofs.string_rows.StringRows.known.Given as goal
 
 abbrev pub invariant-halves : goal.invariant-halves
 invariant-halves l = Unit {0}
