@@ -203,10 +203,14 @@ def with_marks(count):
     return "".join(f"{word}\n{word[:4]}{MARKS[0]}{word[4:]}\n{word[:2]}{MARKS[1]}{word[2:]}{MARKS[0]}\n" for word in words)
 
 
+def spelled(words):
+    """These words, each as it is, with a capital, and in capitals."""
+    return "".join(f"{word}\n{word.capitalize()}\n{word.upper()}\n" for word in words)
+
+
 def with_capitals(count):
     """A third of them as they are, a third with a capital, and a third of capitals."""
-    words = letters_alone(count // 3).split()
-    return "".join(f"{word}\n{word.capitalize()}\n{word.upper()}\n" for word in words)
+    return spelled(letters_alone(count // 3).split())
 
 
 def greek(count):
@@ -285,9 +289,9 @@ def moved_to_the_end(count):
 
 
 def words_with(pair):
-    """Words of nine letters, in each of which these two stand one behind the other."""
+    """Words of nine letters, in each of which these two stand one behind the other, and no other element of Hungarian."""
     letters = random.Random(7)
-    made = (letters.choices("abcdefghijklmnopqrstuvwxy", k=7) for _ in range(60_000))
+    made = (letters.choices("abcdefghijklmnopqrtuvwx", k=7) for _ in range(60_000))
     return "".join(f"{''.join(word[:3])}{pair}{''.join(word[3:])}\n" for word in made)
 
 
@@ -303,11 +307,21 @@ DIGRAPHS = table(
     "".join(f"{it}\n" for letter in ALPHABET for it in (letter, *(f"<{pair}>" for pair in PAIRS if pair[0] == letter)))
     + "".join(f"{character(number)}\n" for number in range(100_000)),
     "".join(f'collating-element <{pair}> from "{pair}"\n' for pair in PAIRS))
+# The same with capitals, which differ from small letters at the second level.
+SPELLED = table(
+    "<MIN>\n<CAP>\n" + "".join(f"{low} {low};<MIN>\n{low.upper()} {low};<CAP>\n" for low in ALPHABET)
+    + "".join(f"<{pair}> <{pair}>;<MIN>\n<{pair.upper()}> <{pair}>;<CAP>\n" for pair in PAIRS)
+    + "".join(f"{character(number)}\n" for number in range(100_000)),
+    "collating-symbol <MIN>\ncollating-symbol <CAP>\n"
+    + "".join(f'collating-element <{pair}> from "{pair}"\n' for low in PAIRS for pair in (low, low.upper())),
+    "forward;forward")
 # Of each row that is measured beside other words: its name, how many times as long as with these it may take, the table, the delta file,
 # its words, and the others.
 BESIDE = {
     "review: many words beside one that may hold an element": (3, LETTERS, moved_to_the_end(20), words_of_a("z"), words_of_a("y")),
-    "review: words that each hold an element": (2, DIGRAPHS, moved_apart(20), words_with("sz"), words_with("sk")),
+    "review: words that each hold an element": (2, DIGRAPHS, moved_apart(20), words_with("cs"), words_with("ck")),
+    "review: words in three spellings that each hold an element": (
+        2, SPELLED, moved_apart(20), *(spelled(words_with(pair).split()[:20_000]) for pair in ("cs", "ck"))),
 }
 
 

@@ -4,8 +4,8 @@
 //! the string has. At a character that is marked as no first one, or that makes no marked pair with the next one, no element begins. One
 //! that is marked as a whole string begins one always. So most words that hold a character with which an element begins are still known
 //! to be their characters alone, since hardly any holds what follows it in the element. Where the pair is marked an element may begin or
-//! not (`is_apart`), and has no more characters than its mark says (`most_at`): who asked then looks the text up in the table
-//! (`first_pieces`). Pairs of which the marks have one place share it, and the greatest mark: a look-up more, and no other answer.
+//! not (`is_apart`), and has no more characters than its mark says (`most_at`): who asked then looks the text up, in the table
+//! (`first_pieces`) or among what is known (`string_rows`). Pairs of which the marks have one place share it, and the greatest mark: a look-up more, and no other answer.
 //!
 //! The simple form is `longest`, which looks the text up; `AreMarks` joins both.
 

@@ -108,8 +108,8 @@ fn is_separator(piece: FirstPiece<'_>) -> bool {
     }
 }
 
-// Keeps what is known of the string that stands before the first separator of a text, where one does: the row is that of what the text
-// begins with.
+// Keeps what is known of the string that stands before the first separator of a text, where one of two characters or more does: the row
+// is that of what the text begins with. Characters that stand alone there are no strings.
 fn put_string(
     alloc: Global,
     table: &Table,
@@ -128,6 +128,9 @@ fn put_string(
     let Some(count) = text.chars().position(|letter| letter == SEPARATOR) else {
         return Ok(());
     };
+    if count < 2 {
+        return Ok(());
+    }
     let Some((string, _)) = split_characters(text, count) else {
         return Ok(());
     };

@@ -2,7 +2,8 @@
 //!
 //! Each is gathered once, and put behind the others in one text (`into_text`), of which `LetterWeights` makes rows. Where elements may
 //! begin in a text each beginning is gathered, up to the most characters that a string has there: whether it is an element's is for the
-//! table to say. So nothing that is gathered is trusted, and no contract speaks of it.
+//! table to say. So nothing that is gathered is trusted, and no contract speaks of it. How many characters the pieces have is bounded,
+//! since rows are made of each, and each may be looked up as the beginning of an element.
 
 use crate::element_marks::ElementMarks;
 use crate::first_pieces::split_characters;
@@ -11,7 +12,8 @@ use coll_elements::CodePoints;
 use std::alloc::{AllocError, Global};
 use std::collections::BTreeSet;
 
-/// What stands behind a character with which an element begins, and behind a string, so that they hold no other element.
+/// What stands behind the characters with which no element begins, behind each other one, and behind each string, so that what stands
+/// between two has no element of more characters, but of tables that have U+0000 in one.
 pub(crate) const SEPARATOR: char = '\0';
 
 /// The characters of texts and the strings that may be elements in them, each once.
@@ -26,7 +28,7 @@ pub struct TextPieces {
     beginning: String,
     are_beginning: CodePoints,
     strings: BTreeSet<String>,
-    // How many characters and strings there may be yet, and how many strings may be looked at, in all and in each text.
+    // How many characters the pieces may have yet, and how many strings may be looked at, in all and in each text.
     room: usize,
     looks: usize,
     looks_a_text: usize,
@@ -40,13 +42,13 @@ pub struct TextPieces {
 pub struct PieceText {
     /// The text.
     pub text: String,
-    /// Of each character its place among the characters of the text, from 1, the separators among them.
+    /// Of each character its place among the characters of the text, from 1. That of the separator is the place of one of them.
     pub places: CodePoints,
 }
 
 impl TextPieces {
-    /// No pieces yet, with room for so many. Where elements may begin so many strings may be looked at in all, and so many in each text. It
-    /// takes no memory.
+    /// No pieces yet, with room for so many characters. Where elements may begin so many strings may be looked at in all, and so many in
+    /// each text. It takes no memory.
     pub fn new(alloc: Global, room: usize, looks: usize, looks_a_text: usize) -> TextPieces {
         TextPieces {
             alloc,
@@ -82,22 +84,29 @@ impl TextPieces {
         Ok(true)
     }
 
-    /// Adds the pieces of a text that these gave (`into_text`), by marks of more elements, and tells whether there was room, and there
-    /// were looks.
+    /// Adds the pieces of a text that others gave (`into_text`), by marks of more elements, and tells whether there was room.
     pub fn add_again(&mut self, pieces: &str, marks: &ElementMarks) -> Result<bool, AllocError> {
-        let (letters, strings) = match pieces.split_once(SEPARATOR) {
+        let (letters, others) = match pieces.split_once(SEPARATOR) {
             Some(parts) => parts,
             None => (pieces, ""),
         };
         if !self.add_letters(letters, marks)? {
             return Ok(false);
         }
-        for string in strings.split(SEPARATOR) {
-            if !self.add(string, marks)? {
+        for piece in others.split(SEPARATOR) {
+            if !self.add_piece(piece, marks)? {
                 return Ok(false);
             }
         }
         Ok(true)
+    }
+
+    // Adds a character by itself, or a string, and tells whether there was room.
+    fn add_piece(&mut self, piece: &str, marks: &ElementMarks) -> Result<bool, AllocError> {
+        match piece.chars().count() {
+            0 | 1 => self.add_letters(piece, marks),
+            count => self.put_string(piece, count),
+        }
     }
 
     // Adds characters, and none of the strings that they make one behind another.
@@ -129,15 +138,18 @@ impl TextPieces {
         self.add_strings(text, marks.most_at(letter, rest))
     }
 
-    // Adds a character, unless it is there, and tells whether there was room.
+    // Adds a character, unless it is there, and tells whether there was room. The separator stands among the pieces anyway.
     fn add_letter(&mut self, letter: char, marks: &ElementMarks) -> Result<bool, AllocError> {
+        if letter == SEPARATOR {
+            return Ok(true);
+        }
         if marks.begin_without(letter) {
             return self.add_plain(letter);
         }
         if self.are_beginning.get(letter) > 0 {
             return Ok(true);
         }
-        if !self.take_room() {
+        if !self.take_room(1) {
             return Ok(false);
         }
         self.are_beginning.set(letter, 1)?;
@@ -150,7 +162,7 @@ impl TextPieces {
         if self.plain_places.get(letter) > 0 {
             return Ok(true);
         }
-        if !self.take_room() {
+        if !self.take_room(1) {
             return Ok(false);
         }
         self.plain_count = self.plain_count.saturating_add(1);
@@ -159,9 +171,9 @@ impl TextPieces {
         Ok(true)
     }
 
-    // Takes room for a piece, if there is any.
-    fn take_room(&mut self) -> bool {
-        match self.room.checked_sub(1) {
+    // Takes room for so many characters, if there is any.
+    fn take_room(&mut self, count: usize) -> bool {
+        match self.room.checked_sub(count) {
             Some(left) => {
                 self.room = left;
                 true
@@ -182,28 +194,25 @@ impl TextPieces {
         }
     }
 
-    // Adds what a text begins with, from two characters up to so many.
+    // Adds what a text begins with, from two characters up to so many, and tells whether there was room, and each could be looked at.
     fn add_strings(&mut self, text: &str, most: usize) -> Result<bool, AllocError> {
         for beyond in 1..most {
             let Some((string, _)) = split_characters(text, beyond + 1) else {
                 return Ok(true);
             };
-            if !self.add_string(string)? {
+            if !self.take_look() || !self.put_string(string, beyond + 1)? {
                 return Ok(false);
             }
         }
         Ok(true)
     }
 
-    // Adds a string, unless it is there, and tells whether there was room, and it could be looked at.
-    fn add_string(&mut self, string: &str) -> Result<bool, AllocError> {
-        if !self.take_look() {
-            return Ok(false);
-        }
+    // Puts a string of so many characters, unless it is there, and tells whether there was room.
+    fn put_string(&mut self, string: &str, count: usize) -> Result<bool, AllocError> {
         if self.strings.contains(string) {
             return Ok(true);
         }
-        if !self.take_room() {
+        if !self.take_room(count) {
             return Ok(false);
         }
         let copy = String::from_str(self.alloc, string)?;
@@ -211,8 +220,8 @@ impl TextPieces {
         Ok(true)
     }
 
-    /// The pieces as one text: the characters with which no element begins, then those with which one does, and then the strings in their
-    /// order.
+    /// The pieces as one text: the characters with which no element begins and a separator, then those with which one does, and then the
+    /// strings in their order, each before a separator.
     pub fn into_text(self) -> Result<PieceText, AllocError> {
         let TextPieces {
             alloc: _,
@@ -233,7 +242,10 @@ impl TextPieces {
             text: plain,
             places: plain_places,
         };
-        put_beginning(&mut pieces, beginning.as_str(), plain_count)?;
+        let place = plain_count.saturating_add(1);
+        pieces.text.push(SEPARATOR)?;
+        pieces.places.set(SEPARATOR, place)?;
+        put_beginning(&mut pieces, beginning.as_str(), place)?;
         put_strings(&mut pieces.text, &strings)?;
         Ok(pieces)
     }

@@ -1,8 +1,8 @@
 //! What words are compared by: their characters, and the strings in them that may be collating elements, each once.
 //!
-//! They are gathered once for a list of words, since no statement gives a word another character. Where elements were declared since, which
-//! is seen eight times in all, the words are gathered anew in which one may begin: those that hold its first two characters in a row, or two
-//! that share their mark. Where a word is long by itself, where elements may begin at many of its places, or where characters and strings
+//! They are gathered once for a list of words, since no statement gives a word another character. Where elements were declared since, the
+//! words are gathered anew in which one may begin, eight times in all with the first: those that hold its first two characters in a row, or
+//! two that share their mark. Where a word is long by itself, where elements may begin at many of its places, or where characters and strings
 //! are many, words are not compared by them: a pair that they leave undecided takes time by the length of both words, whatever they begin
 //! with. What is kept here is looked at again wherever it is used, so no contract speaks of it.
 
@@ -23,7 +23,7 @@ const MOST_TIMES: u32 = 8;
 /// The characters and strings of words, each once, and the place of each character.
 #[derive(Drop)]
 pub(crate) struct Letters {
-    /// The characters and strings, one behind another.
+    /// The characters and strings, one behind another, or none where something was left out.
     pub text: String,
     /// Of each character its place among them, from 1.
     pub places: CodePoints,
@@ -50,7 +50,7 @@ impl Letters {
         let mut pieces = TextPieces::new(alloc, most, looks, MOST_WORD_LOOKS);
         let all = add_words(&mut pieces, list, marks)?;
         let joined = pieces.are_joined();
-        kept_pieces(pieces, all, joined, marks, 0)
+        kept_pieces(alloc, pieces, all, joined, marks, 0)
     }
 
     /// The same, where elements were declared since these were gathered, which other marks tell of. Those have to be of all words.
@@ -68,19 +68,28 @@ impl Letters {
             && pieces.add_again(self.text.as_str(), marks)?
             && add_marked_words(&mut pieces, list, marks, since)?;
         let joined = self.joined || pieces.are_joined();
-        kept_pieces(pieces, all, joined, marks, self.times)
+        kept_pieces(alloc, pieces, all, joined, marks, self.times)
     }
 }
 
-// What was gathered by these marks, behind so many times before.
+// What was gathered by these marks, behind so many times before. Where something was left out no pieces are kept.
 fn kept_pieces(
+    alloc: Global,
     pieces: TextPieces,
     all: bool,
     joined: bool,
     marks: &ElementMarks,
     times: u32,
 ) -> Result<Letters, AllocError> {
-    let PieceText { text, places } = pieces.into_text()?;
+    let PieceText { text, places } = if all {
+        pieces.into_text()?
+    } else {
+        drop(pieces);
+        PieceText {
+            text: String::new(alloc),
+            places: CodePoints::new(alloc),
+        }
+    };
     Ok(Letters {
         text,
         places,

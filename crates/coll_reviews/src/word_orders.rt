@@ -29,7 +29,7 @@ use std::alloc::{AllocError, Global};
 use std::cmp::Ordering;
 
 // For each word and each entry of the table so many strings of words may be looked at where elements may begin. Where there are more, ranks
-// serve, since each of these is looked up behind each statement.
+// serve, since comparisons look each of these up.
 const LOOKS_A_WORD: usize = 4;
 
 // For so many entries of the table one number of a key, or one look-up of what a byte of its word may begin, is paid for behind a

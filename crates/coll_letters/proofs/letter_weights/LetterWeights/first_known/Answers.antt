@@ -13,7 +13,7 @@ sizes-init c =
     let table = collation c.args.table.now in
     let text = chars c.args.text.now in
     same_from_most table text c.most_at-size.result
-    (bounded table c.args.self.now.marks c.requires.weights.marks text c.args.first (chars c.args.rest.now) c.most_at-size.result c.requires.text c.most_at-size.ensures)
+    (bounded table c.args.self.now.marks c.requires.marks text c.in_ok-first.first (chars c.in_ok-first.rest.now) c.most_at-size.result c.in_ok-first.ensures c.most_at-size.ensures)
 
 pub sizes-preserved : goal.sizes-preserved
 sizes-preserved c =
@@ -52,6 +52,6 @@ returns c =
     let table = collation c.args.table.now in
     let text = chars c.args.text.now in
     let well = c.lemma_well_formed.ensures.well_formed in
-    letter_piece table c.args.self.now.made.weights text c.args.first _
-    (begins_with_letter table well text c.args.first (chars c.args.rest.now) c.requires.text (none_left table text well c.sizes.size (omega (arith, c.sizes-test.false)) c.sizes.invariant))
+    letter_piece table c.args.self.now.made.weights text c.in_ok-first.first _
+    (begins_with_letter table well text c.in_ok-first.first (chars c.in_ok-first.rest.now) c.in_ok-first.ensures (none_left table text well c.sizes.size (omega (arith, c.sizes-test.false)) c.sizes.invariant))
     c.in_ok-row.ensures

@@ -12,7 +12,7 @@ invariant-letters l = record {
   text : shadow (Utf8 l.left);
   rows : (level : ℕ) → level < length (collation l.table).rules
       → map (row_numbers l.self.made.weights level) l.rows.items ++ text_numbers (collation l.table) level (chars l.left) ≡ text_numbers (collation l.table) level (chars l.text);
-  few : length l.rows.items + length (chars l.left) ≤ length (chars l.text);
+  few : length l.rows.items + length (chars l.left) ≤ 65_536;
 }
 
 abbrev pub decreases-letters : goal.decreases-letters

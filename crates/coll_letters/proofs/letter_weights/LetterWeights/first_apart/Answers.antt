@@ -3,7 +3,7 @@ use Rattle.std.proofs.Common.{chars, length, ap, arith}
 use Rattle.coll_nodes.specs.TableLayout.{collation}
 use Rattle.coll_letters.proofs.MarkLemmas.{stands_apart}
 use Rattle.coll_letters.proofs.LetterLemmas.{letter_first}
-use Rattle.coll_letters.proofs.letter_weights.LetterWeights.first_letter.Goals as goal
+use Rattle.coll_letters.proofs.letter_weights.LetterWeights.first_apart.Goals as goal
 
 pub returns : goal.returns
 returns c = record {

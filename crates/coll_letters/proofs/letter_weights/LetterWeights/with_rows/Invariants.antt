@@ -1,0 +1,20 @@
+-- The rows so far, and what is left, are those that were there and the text.
+use Rattle.std.proofs.Common.{◌≡◌, ◌<◌, ◌≤◌, ◌+◌, ◌++◌, ℕ, chars, length, map}
+use denote.Shadow.{shadow}
+use denote.Text.{Utf8}
+use Rattle.coll_nodes.specs.TableLayout.{collation}
+use Rattle.coll_ranks.specs.LevelWeights.{row_numbers}
+use Rattle.coll_letters.specs.LetterWeights.{text_numbers}
+use Rattle.coll_letters.proofs.letter_weights.LetterWeights.with_rows.Given as goal
+
+abbrev pub invariant-letters : goal.invariant-letters
+invariant-letters l = record {
+  text : shadow (Utf8 l.left);
+  rows : (level : ℕ) → level < length (collation l.table).rules
+      → map (row_numbers l.self.made.weights level) l.all.items ++ text_numbers (collation l.table) level (chars l.left)
+      ≡ map (row_numbers l.self.made.weights level) l.fn.rows.items ++ text_numbers (collation l.table) level (chars l.text);
+  few : length l.all.items + length (chars l.left) ≤ length l.fn.rows.items + length (chars l.text);
+}
+
+abbrev pub decreases-letters : goal.decreases-letters
+decreases-letters l = length (chars l.left)
