@@ -321,7 +321,7 @@ BESIDE = {
     "review: many words beside one that may hold an element": (3, LETTERS, moved_to_the_end(20), words_of_a("z"), words_of_a("y")),
     "review: words that each hold an element": (2, DIGRAPHS, moved_apart(20), words_with("cs"), words_with("ck")),
     "review: words in three spellings that each hold an element": (
-        2, SPELLED, moved_apart(20), *(spelled(words_with(pair).split()[:20_000]) for pair in ("cs", "ck"))),
+        3, SPELLED, moved_apart(20), *(spelled(words_with(pair).split()[:20_000]) for pair in ("cs", "ck"))),
 }
 
 
